@@ -14,7 +14,7 @@
 --   isZero x         whether x is 𝟎
 --   val g            the value that a `Gf` of the code stands for
 use mathlib.Core.Bool.{Bool, true, false, xor, cond}
-use mathlib.Core.List.{List, [], _∷_, _++_}
+use mathlib.Core.List.{List, [], _∷_}
 use Prim.Native.Nat.{ℕ, zero, suc, _+_, _*_, _/_, _%_}
 use lib.Dec.{eqb}
 use Rattle.field.specs.declared.Gf.{Gf}
@@ -52,9 +52,18 @@ times [] q = []
 times (false ∷ p) q = false ∷ times p q
 times (true ∷ p) q = plus q (false ∷ times p q)
 
--- a + z x, where z^8 is z^4 + z^3 + z^2 + 1
+-- a coefficient times a value
+unfoldable pub scale : Bool → F → F
+scale false x = 𝟎
+scale true x = x
+
+-- z^8 modulo 285 = 2^8 + 2^4 + 2^3 + 2^2 + 1
+unfoldable pub z⁸ : F
+z⁸ = poly true false true true true false false false
+
+-- a + z x
 unfoldable pub horner : Bool → F → F
-horner a (poly x0 x1 x2 x3 x4 x5 x6 x7) = poly (xor a x7) x0 (xor x1 x7) (xor x2 x7) (xor x3 x7) x4 x5 x6
+horner a (poly x0 x1 x2 x3 x4 x5 x6 x7) = poly a x0 x1 x2 x3 x4 x5 x6 ⊕ scale x7 z⁸
 
 unfoldable pub modulo : List Bool → F
 modulo [] = 𝟎
@@ -106,10 +115,10 @@ unfoldable pub powers : ℕ → F → List ℕ
 powers zero x = []
 powers (suc n) x = byte x ∷ powers n (α ⊙ x)
 
--- where b first stands in a list whose places are counted from i; 0 if it does not
+-- the index of the first b in a list, counted from i; 0 if there is none
 unfoldable pub place : ℕ → ℕ → List ℕ → ℕ
 place b i [] = 0
-place b i (x ∷ xs) = cond (eqb x b) i (place b (suc i) xs)
+place b i (x ∷ xs) = let later = place b (suc i) xs in cond (eqb x b) i later
 
 unfoldable pub logOf : ℕ → ℕ
 logOf b = place b 0 (powers 255 𝟏)

@@ -7,14 +7,14 @@ use mathlib.Core.Logic.{_≢_}
 use Prim.Native.Nat.{ℕ, zero, suc, _+_, _*_, _-_, _/_, _%_, _<_, _≤_}
 use native.Mathlib.Nat.{mul-comm, div-add-mod', add-sub-of-le, le-of-lt}
 use native.Mathlib.Omega.{arith}
-use Rattle.field.specs.Definition.{F, 𝟎, 𝟏, α, _⊕_, plus, times, horner, modulo, coefficients, _⊙_, pow, inv, log}
+use Rattle.field.specs.Definition.{F, 𝟎, 𝟏, α, _⊕_, plus, times, scale, z⁸, horner, modulo, coefficients, _⊙_, pow, inv, log}
 use Rattle.field.specs.Sum.{⊕-equal}
 use Rattle.field.specs.Product.{⊙-assoc, ⊙-comm, ⊙-one, one-⊙, ⊙-zero, zero-⊙, one≢zero, alpha≢zero}
 use Rattle.field.specs.Power.{pow-zero, pow-suc, pow-add, pow-mul, one-pow}
 use Rattle.field.specs.Log.{log-lt, pow-log, log-pow}
 
 pub power-255 : pow α 255 ≡ 𝟏
-unfolding pow 𝟎 𝟏 α _⊙_ times plus modulo horner coefficients mathlib.Core.Bool.xor
+unfolding pow 𝟎 𝟏 α _⊙_ times plus modulo horner scale z⁸ _⊕_ coefficients mathlib.Core.Bool.xor
 power-255 = refl
 
 power-multiple : (q : ℕ) → pow α (q * 255) ≡ 𝟏

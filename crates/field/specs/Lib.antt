@@ -1,3 +1,4 @@
+-- Definition is what a reader must believe; the others prove laws of it; Field passes on what users need.
 pub mod Definition
 pub mod Sum
 pub mod Product
@@ -6,3 +7,4 @@ pub mod Byte
 pub mod Power
 pub mod Log
 pub mod Inverse
+pub mod Field

@@ -13,11 +13,11 @@ use native.Mathlib.Nat.{add-zero, zero-add, add-suc, suc-add, mul-comm, div-add-
 use native.Mathlib.Omega.{arith}
 use lib.Dec.{T, eqb, ltb, eqb→eq, ltb→lt}
 use lib.ListN.{length, getD, List·getD-append}
-use Rattle.field.specs.Definition.{F, 𝟎, 𝟏, α, _⊕_, plus, times, horner, modulo, coefficients, _⊙_, pow, inv, isOdd, of, bit, byte, powers, place, logOf, log}
+use Rattle.field.specs.Definition.{F, 𝟎, 𝟏, α, _⊕_, plus, times, scale, z⁸, horner, modulo, coefficients, _⊙_, pow, inv, isOdd, of, bit, byte, powers, place, logOf, log}
 use Rattle.field.specs.Product.{⊙-assoc, ⊙-comm, ⊙-left-comm, ⊙-one, one-⊙, ⊙-zero, zero-⊙, one≢zero, alpha≢zero}
 use Rattle.field.specs.Test.{all, all-at, and-both}
 use Rattle.field.specs.Byte.{of-byte, byte-of, byte-lt, byte-inj, byte-zero}
-use Rattle.field.specs.Power.{pow-zero, pow-suc, pow-one, pow-add, pow-mul, one-pow, ⊙-pow}
+use Rattle.field.specs.Power.{pow-zero, pow-suc, pow-one, pow-add, pow-mul, one-pow, pow-⊙}
 
 -- ---- the powers of α, one after the other
 
@@ -38,7 +38,7 @@ distinct : List ℕ → Bool
 distinct t = all 255 (λ k. eqb (place (getD t k 0) 0 t) k)
 
 distinct-test : T (distinct (powers 255 𝟏))
-unfolding distinct all powers place byte bit 𝟎 𝟏 α _⊙_ times plus modulo horner coefficients xor
+unfolding distinct all powers place byte bit 𝟎 𝟏 α _⊙_ times plus modulo horner scale z⁸ _⊕_ coefficients xor
 distinct-test = tt
 
 -- every byte has a place below 255, and every byte but 0 stands there
@@ -46,7 +46,7 @@ complete : List ℕ → Bool
 complete t = all 256 (λ b. ltb (place b 0 t) 255 && (eqb b 0 || eqb (getD t (place b 0 t) 0) b))
 
 complete-test : T (complete (powers 255 𝟏))
-unfolding complete all powers place byte bit 𝟎 𝟏 α _⊙_ times plus modulo horner coefficients xor
+unfolding complete all powers place byte bit 𝟎 𝟏 α _⊙_ times plus modulo horner scale z⁸ _⊕_ coefficients xor
 complete-test = tt
 
 -- ---- logarithms

@@ -29,6 +29,6 @@ pub one-pow : (n : ℕ) → pow 𝟏 n ≡ 𝟏
 one-pow zero = pow-zero 𝟏
 one-pow (suc n) = simp (pow-suc, one-⊙, one-pow n)
 
-pub ⊙-pow : (x y : F) (n : ℕ) → pow (x ⊙ y) n ≡ pow x n ⊙ pow y n
-⊙-pow x y zero = simp (pow-zero, one-⊙)
-⊙-pow x y (suc n) = simp (pow-suc, ⊙-pow x y n, ⊙-assoc, ⊙-left-comm)
+pub pow-⊙ : (x y : F) (n : ℕ) → pow (x ⊙ y) n ≡ pow x n ⊙ pow y n
+pow-⊙ x y zero = simp (pow-zero, one-⊙)
+pow-⊙ x y (suc n) = simp (pow-suc, pow-⊙ x y n, ⊙-assoc, ⊙-left-comm)

@@ -9,31 +9,49 @@ use mathlib.Core.Path.{_≡_, refl, sym, ap, ap₂, _∙_}
 use mathlib.Core.Bool.{Bool, true, false, xor, true≢false}
 use mathlib.Core.Logic.{_≢_}
 use mathlib.Core.List.{List, [], _∷_}
-use Rattle.field.specs.Definition.{F, poly, 𝟎, 𝟏, α, _⊕_, plus, times, horner, modulo, coefficients, _⊙_}
-use Rattle.field.specs.Sum.{xor-false, xor-self, xor-middle, ⊕-assoc, ⊕-comm, ⊕-left-comm, ⊕-self, ⊕-self-left, ⊕-zero, zero-⊕, ⊕-group}
+use Rattle.field.specs.Definition.{F, poly, 𝟎, 𝟏, α, _⊕_, plus, times, scale, z⁸, horner, modulo, coefficients, _⊙_}
+use Rattle.field.specs.Sum.{xor-false, ⊕-assoc, ⊕-comm, ⊕-left-comm, ⊕-self, ⊕-self-left, ⊕-zero, zero-⊕, ⊕-group}
 
 -- ---- modulo 285 is linear
 
-shift : F → F
-shift x = horner false x
+scale-⊕ : (a : Bool) (x y : F) → scale a (x ⊕ y) ≡ scale a x ⊕ scale a y
+unfolding scale
+scale-⊕ false x y = sym (zero-⊕ 𝟎)
+scale-⊕ true x y = refl
+
+scale-xor : (a b : Bool) (x : F) → scale (xor a b) x ≡ scale a x ⊕ scale b x
+unfolding scale xor
+scale-xor false false x = sym (zero-⊕ 𝟎)
+scale-xor false true x = sym (zero-⊕ x)
+scale-xor true false x = sym (⊕-zero x)
+scale-xor true true x = sym (⊕-self x)
+
+-- z x before z^8 is replaced: the coefficients one place up, with a below them, and the one that became that of z^8
+raise : Bool → F → F
+raise a (poly x0 x1 x2 x3 x4 x5 x6 x7) = poly a x0 x1 x2 x3 x4 x5 x6
+
+top : F → Bool
+top (poly x0 x1 x2 x3 x4 x5 x6 x7) = x7
+
+horner-raise : (a : Bool) (x : F) → horner a x ≡ raise a x ⊕ scale (top x) z⁸
+unfolding horner raise top
+horner-raise a (poly x0 x1 x2 x3 x4 x5 x6 x7) = refl
+
+raise-⊕ : (a b : Bool) (x y : F) → raise (xor a b) (x ⊕ y) ≡ raise a x ⊕ raise b y
+unfolding raise _⊕_
+raise-⊕ a b (poly x0 x1 x2 x3 x4 x5 x6 x7) (poly y0 y1 y2 y3 y4 y5 y6 y7) = refl
+
+top-⊕ : (x y : F) → top (x ⊕ y) ≡ xor (top x) (top y)
+unfolding top _⊕_
+top-⊕ (poly x0 x1 x2 x3 x4 x5 x6 x7) (poly y0 y1 y2 y3 y4 y5 y6 y7) = refl
 
 horner-⊕ : (a b : Bool) (x y : F) → horner (xor a b) (x ⊕ y) ≡ horner a x ⊕ horner b y
-unfolding horner _⊕_
-horner-⊕ a b (poly x0 x1 x2 x3 x4 x5 x6 x7) (poly y0 y1 y2 y3 y4 y5 y6 y7) =
-    λ i. poly (xor-middle a b x7 y7 i) (xor x0 y0) (xor-middle x1 y1 x7 y7 i) (xor-middle x2 y2 x7 y7 i) (xor-middle x3 y3 x7 y7 i)
-    (xor x4 y4) (xor x5 y5) (xor x6 y6)
+horner-⊕ a b x y = simp (horner-raise, raise-⊕, top-⊕, scale-xor, ⊕-group)
 
-horner-one : horner true 𝟎 ≡ 𝟏
-unfolding horner 𝟎 𝟏 xor
-horner-one = refl
-
-shift-⊕ : (x y : F) → shift (x ⊕ y) ≡ shift x ⊕ shift y
-unfolding shift
-shift-⊕ x y = ap (λ (a : Bool). horner a (x ⊕ y)) (sym (xor-self false)) ∙ horner-⊕ false false x y
-
-shift-zero : shift 𝟎 ≡ 𝟎
-unfolding shift horner 𝟎 xor
-shift-zero = refl
+horner-zero : (a : Bool) → horner a 𝟎 ≡ scale a 𝟏
+unfolding horner scale _⊕_ 𝟎 𝟏 xor
+horner-zero false = refl
+horner-zero true = refl
 
 modulo-plus : (p q : List Bool) → modulo (plus p q) ≡ modulo p ⊕ modulo q
 unfolding modulo plus
@@ -42,41 +60,30 @@ modulo-plus (a ∷ p) [] = sym (⊕-zero _)
 modulo-plus (a ∷ p) (b ∷ q) = ap (horner (xor a b)) (modulo-plus p q) ∙ horner-⊕ a b (modulo p) (modulo q)
 
 modulo-coefficients : (x : F) → modulo (coefficients x) ≡ x
-unfolding modulo coefficients horner 𝟎
+unfolding modulo coefficients horner scale _⊕_ 𝟎
 modulo-coefficients (poly x0 x1 x2 x3 x4 x5 x6 x7) = simp xor-false
 
 -- ---- a polynomial times a value
 
-scale : Bool → F → F
-scale true x = x
-scale false x = 𝟎
+shift : F → F
+shift x = horner false x
+
+shift-⊕ : (x y : F) → shift (x ⊕ y) ≡ shift x ⊕ shift y
+unfolding shift
+shift-⊕ x y = ap (λ (a : Bool). horner a (x ⊕ y)) (sym (xor-false false)) ∙ horner-⊕ false false x y
+
+shift-zero : shift 𝟎 ≡ 𝟎
+unfolding shift scale
+shift-zero = horner-zero false
 
 horner-scale : (a : Bool) (x : F) → horner a x ≡ scale a 𝟏 ⊕ shift x
-unfolding scale shift
-horner-scale true x = ap (λ (s : F). horner true s) (sym (zero-⊕ x)) ∙ split ∙ ap (λ (s : F). s ⊕ horner false x) one
-  where
-    split : horner true (𝟎 ⊕ x) ≡ horner true 𝟎 ⊕ horner false x
-    split = ap (λ (b : Bool). horner b (𝟎 ⊕ x)) (sym (xor-false true)) ∙ horner-⊕ true false 𝟎 x
-
-    one : horner true 𝟎 ≡ 𝟏
-    one = horner-one
-horner-scale false x = sym (zero-⊕ _)
+unfolding shift
+horner-scale a x =
+    ap₂ horner (sym (xor-false a)) (sym (zero-⊕ x)) ∙ horner-⊕ a false 𝟎 x ∙ ap (λ (s : F). s ⊕ horner false x) (horner-zero a)
 
 apply : List Bool → F → F
 apply [] x = 𝟎
 apply (a ∷ p) x = scale a x ⊕ shift (apply p x)
-
-scale-⊕ : (a : Bool) (x y : F) → scale a (x ⊕ y) ≡ scale a x ⊕ scale a y
-unfolding scale
-scale-⊕ true x y = refl
-scale-⊕ false x y = sym (zero-⊕ 𝟎)
-
-scale-xor : (a b : Bool) (x : F) → scale (xor a b) x ≡ scale a x ⊕ scale b x
-unfolding scale xor
-scale-xor true true x = sym (⊕-self x)
-scale-xor true false x = sym (⊕-zero x)
-scale-xor false true x = sym (zero-⊕ x)
-scale-xor false false x = sym (zero-⊕ 𝟎)
 
 apply-⊕ : (p : List Bool) (x y : F) → apply p (x ⊕ y) ≡ apply p x ⊕ apply p y
 unfolding apply

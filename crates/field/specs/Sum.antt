@@ -18,7 +18,7 @@ unfolding xor
 false-xor true = refl
 false-xor false = refl
 
-pub xor-self : (a : Bool) → xor a a ≡ false
+xor-self : (a : Bool) → xor a a ≡ false
 unfolding xor
 xor-self true = refl
 xor-self false = refl
@@ -40,12 +40,6 @@ xor-assoc false true true = refl
 xor-assoc false true false = refl
 xor-assoc false false true = refl
 xor-assoc false false false = refl
-
-xor-left-comm : (a b c : Bool) → xor a (xor b c) ≡ xor b (xor a c)
-xor-left-comm a b c = sym (xor-assoc a b c) ∙ ap (λ (s : Bool). xor s c) (xor-comm a b) ∙ xor-assoc b a c
-
-pub xor-middle : (a b c d : Bool) → xor (xor a b) (xor c d) ≡ xor (xor a c) (xor b d)
-xor-middle a b c d = simp (xor-assoc, xor-left-comm)
 
 -- ---- values
 

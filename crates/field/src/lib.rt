@@ -82,9 +82,9 @@ impl Gf {
         if other.0 == 0 {
             return Gf::ZERO;
         }
-        let a = self.log();
-        let b = other.log();
-        Exponent(a.0 + b.0).power()
+        let j = self.log();
+        let k = other.log();
+        Exponent(j.0 + k.0).power()
     }
 
     // The inverse of zero is zero.
@@ -94,8 +94,8 @@ impl Gf {
         if self.0 == 0 {
             return Gf::ZERO;
         }
-        let a = self.log();
-        Exponent(255 - a.0).power()
+        let k = self.log();
+        Exponent(255 - k.0).power()
     }
 }
 

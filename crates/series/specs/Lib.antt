@@ -1,0 +1,9 @@
+pub mod Sum
+pub mod Series
+pub mod Shift
+pub mod Degree
+pub mod Value
+pub mod Interpolation
+pub mod Decide
+pub mod Word
+pub mod First
