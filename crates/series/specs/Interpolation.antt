@@ -1,7 +1,6 @@
 -- Values at distinct points determine a polynomial; small systems.
 --
 --   Distinct n x       x 0, .., x (n - 1) are distinct
---   unit k             1 at k, 0 elsewhere
 --   Solves b x N S     sum over w < b of (x w)^l · S w is N l, for each l < b
 --   solution b x N     the unknowns of that system
 --   line a c g         the polynomial c + (z + a)·g
@@ -11,13 +10,14 @@
 -- Each of the two problems is solved by peeling off one point; that it has no other solution follows from the solution of the other.
 use Prim.Native.Nat.{ℕ, zero, suc, _≤_, _<_}
 use mathlib.Core.Path.{_≡_, refl, sym, _∙_, ap, fun-ext}
-use mathlib.Core.Logic.{_≢_, ite, if-pos, if-neg, by-cases}
+use mathlib.Core.Logic.{_≢_, by-cases}
 use native.Mathlib.Omega.{arith}
-use native.Mathlib.Decide.{ℕ-discrete, decLe}
+use native.Mathlib.Decide.{decLe}
 use Rattle.field.specs.Field.{F, 𝟎, 𝟏, _⊕_, _⊙_, zero-⊕, ⊕-self, ⊕-cancel, ⊕-equal, ⊕-group, ⊙-zero, zero-⊙, ⊙-one, one-⊙, ⊙-left-comm, ⊙-ring}
 use Rattle.field.specs.Field.{pow, pow-zero, pow-suc, inv, mul-inv}
 use Rattle.series.specs.Sum.{sum, sum-head, sum-cong, sum-zero, sum-⊕, ⊙-sum, sum-swap, sum-one}
 use Rattle.series.specs.Series.{Series, O, O-at}
+use Rattle.series.specs.Shift.{zpow, zpow-one, zpow-other}
 use Rattle.series.specs.Degree.{below}
 use Rattle.series.specs.Value.{value, value-is, value-none, value-last}
 
@@ -33,20 +33,9 @@ distinct-apart n x d j h e = d 0 (suc j) (omega arith) (omega arith) (sym (⊕-e
 divide : (a b : F) → a ≢ 𝟎 → a ⊙ (b ⊙ inv a) ≡ b
 divide a b h = ⊙-left-comm a b (inv a) ∙ ap (λ t. b ⊙ t) (mul-inv a h) ∙ ⊙-one b
 
-unfoldable pub unit : ℕ → Series
-unit k i = ite (ℕ-discrete i k) 𝟏 𝟎
-
-pub unit-same : (k : ℕ) → unit k k ≡ 𝟏
-unfolding unit
-unit-same k = if-pos (ℕ-discrete k k) refl 𝟏 𝟎
-
-pub unit-other : (k i : ℕ) → i ≢ k → unit k i ≡ 𝟎
-unfolding unit
-unit-other k i h = if-neg (ℕ-discrete i k) h 𝟏 𝟎
-
-sum-unit : (n k : ℕ) (f : ℕ → F) → k < n → sum n (λ i. f i ⊙ unit k i) ≡ f k
-sum-unit n k f l =
-    sum-one n k _ l (λ i m h. ap (λ w. f i ⊙ w) (unit-other k i h) ∙ ⊙-zero (f i)) ∙ ap (λ w. f k ⊙ w) (unit-same k) ∙ ⊙-one (f k)
+-- z^k picks out a term
+sum-zpow : (n k : ℕ) (f : ℕ → F) → k < n → sum n (λ i. f i ⊙ zpow k i) ≡ f k
+sum-zpow n k f l = sum-one n k _ l (λ i m h. rw (zpow-other k i h) (⊙-zero (f i))) ∙ rw zpow-one (⊙-one (f k))
 
 -- ---- small systems
 
@@ -154,30 +143,30 @@ dual n f x S =
     ∙ sum-cong n _ _ (λ w q. rw value-is (sum-cong n _ (λ l. S w ⊙ (f l ⊙ pow (x w) l)) (λ l r. simp ⊙-ring) ∙ sym (⊙-sum (S w) n _)))
 
 -- a coefficient from the values
-coefficient : (n : ℕ) (f : Series) (x : ℕ → F) → Distinct n x → (i : ℕ) → i < n → f i ≡ sum n (λ w. solution n x (unit i) w ⊙ value n f (x w))
+coefficient : (n : ℕ) (f : Series) (x : ℕ → F) → Distinct n x → (i : ℕ) → i < n → f i ≡ sum n (λ w. solution n x (zpow i) w ⊙ value n f (x w))
 coefficient n f x d i h =
-    sym (sum-unit n i f h)
-    ∙ sum-cong n _ _ (λ l q. ap (λ t. f l ⊙ t) (sym (solution-solves n x (unit i) d l q)))
-    ∙ dual n f x (solution n x (unit i))
+    sym (sum-zpow n i f h)
+    ∙ sum-cong n _ _ (λ l q. ap (λ t. f l ⊙ t) (sym (solution-solves n x (zpow i) d l q)))
+    ∙ dual n f x (solution n x (zpow i))
 
 pub interpolate-unique : (n : ℕ) (f g : Series) (x : ℕ → F) → Distinct n x
     → ((j : ℕ) → j < n → value n f (x j) ≡ value n g (x j)) → (i : ℕ) → i < n → f i ≡ g i
 interpolate-unique n f g x d h i l =
-    coefficient n f x d i l ∙ sum-cong n _ _ (λ w q. ap (λ t. solution n x (unit i) w ⊙ t) (h w q)) ∙ sym (coefficient n g x d i l)
+    coefficient n f x d i l ∙ sum-cong n _ _ (λ w q. ap (λ t. solution n x (zpow i) w ⊙ t) (h w q)) ∙ sym (coefficient n g x d i l)
 
 pub roots-zero : (n : ℕ) (f : Series) (x : ℕ → F) → Distinct n x → below n f → ((j : ℕ) → j < n → value n f (x j) ≡ 𝟎) → f ≡ O
 roots-zero n f x d b h = fun-ext (λ i. by-cases (decLe n i) (b i) (inner i) ∙ sym (O-at i))
   where
     inner : (i : ℕ) → ¬ (n ≤ i) → f i ≡ 𝟎
-    inner i l = coefficient n f x d i (omega arith) ∙ sum-zero n _ (λ w q. ap (λ t. solution n x (unit i) w ⊙ t) (h w q) ∙ ⊙-zero _)
+    inner i l = coefficient n f x d i (omega arith) ∙ sum-zero n _ (λ w q. ap (λ t. solution n x (zpow i) w ⊙ t) (h w q) ∙ ⊙-zero _)
 
 -- an unknown from the right sides
-unknown : (n : ℕ) (x N S : ℕ → F) → Distinct n x → Solves n x N S → (w : ℕ) → w < n → S w ≡ sum n (λ l. interpolate n x (unit w) l ⊙ N l)
+unknown : (n : ℕ) (x N S : ℕ → F) → Distinct n x → Solves n x N S → (w : ℕ) → w < n → S w ≡ sum n (λ l. interpolate n x (zpow w) l ⊙ N l)
 unknown n x N S d h w l =
-    sym (sum-unit n w S l)
-    ∙ sum-cong n _ _ (λ k q. ap (λ t. S k ⊙ t) (sym (interpolate-at n x (unit w) d k q)))
-    ∙ sym (dual n (interpolate n x (unit w)) x S)
-    ∙ sum-cong n _ _ (λ k q. ap (λ t. interpolate n x (unit w) k ⊙ t) (h k q))
+    sym (sum-zpow n w S l)
+    ∙ sum-cong n _ _ (λ k q. ap (λ t. S k ⊙ t) (sym (interpolate-at n x (zpow w) d k q)))
+    ∙ sym (dual n (interpolate n x (zpow w)) x S)
+    ∙ sum-cong n _ _ (λ k q. ap (λ t. interpolate n x (zpow w) k ⊙ t) (h k q))
 
 pub solution-unique : (n : ℕ) (x N S T : ℕ → F) → Distinct n x → Solves n x N S → Solves n x N T → (w : ℕ) → w < n → S w ≡ T w
 solution-unique n x N S T d h k w l = unknown n x N S d h w l ∙ sym (unknown n x N T d k w l)

@@ -4,6 +4,7 @@ pub mod Shift
 pub mod Degree
 pub mod Value
 pub mod Interpolation
+pub mod Array
 pub mod Decide
 pub mod Word
 pub mod First

@@ -1,0 +1,1 @@
+// Theory only: the proved samples stand in specs/.

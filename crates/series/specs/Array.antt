@@ -1,0 +1,65 @@
+-- Arrays as series: the values of their entries, then zeros.
+--
+--   values l     an array of `Gf`
+--   bytes l      an array of bytes
+--   read m d l   the general form: entries of any type, m gives the value of an entry, d is an entry with the value zero
+--
+-- A loop that fills an array with f from the front keeps the equation `read l ≡ cut i f`: it begins with read-zeros, goes on by read-store, and
+-- ends by below-cut-eq.
+use Prim.Native.Nat.{ℕ, zero, suc, _+_, _≤_, _<_}
+use mathlib.Core.Path.{_≡_, refl, sym, ap, _∙_, fun-ext}
+use mathlib.Core.Logic.{_≢_}
+use mathlib.Core.List.{List}
+use native.Mathlib.Decide.{ℕ-discrete}
+use native.Mathlib.Numerals.{add-one}
+use native.Mathlib.Omega.{arith}
+use lib.ListN.{length, getD, set, replicate, List·getD-eq-default}
+use lib.Seq.{getD-set-same, getD-set-other}
+use Rattle.field.specs.declared.Gf.{Gf}
+use Rattle.field.specs.Field.{F, 𝟎, of, val, of-zero, val-zero}
+use Rattle.series.specs.Series.{Series, O, O-at}
+use Rattle.series.specs.Shift.{cut, cut-low, cut-high, cut-unique, cut-none}
+use Rattle.series.specs.Degree.{below}
+
+unfoldable pub read : {A : Type 0} → (A → F) → A → List A → Series
+read m d l i = m (getD l i d)
+
+abbrev pub values : List Gf → Series
+values = read val (record { 0 = 0 })
+
+abbrev pub bytes : List ℕ → Series
+bytes = read of 0
+
+pub read-at : {A : Type 0} (m : A → F) (d : A) (l : List A) (i : ℕ) → read m d l i ≡ m (getD l i d)
+unfolding read
+read-at m d l i = refl
+
+module _ {A : Type 0} (m : A → F) (d : A) where
+  pub read-set-same : (l : List A) (i : ℕ) (v : A) → i < length l → read m d (set l i v) i ≡ m v
+  read-set-same l i v h = read-at m d (set l i v) i ∙ ap m (getD-set-same l i v d h)
+
+  pub read-set-other : (l : List A) (i k : ℕ) (v : A) → k ≢ i → read m d (set l i v) k ≡ read m d l k
+  read-set-other l i k v h = read-at m d (set l i v) k ∙ ap m (getD-set-other l i k v d h) ∙ sym (read-at m d l k)
+
+  module _ (z : m d ≡ 𝟎) where
+    pub below-read : (l : List A) → below (length l) (read m d l)
+    below-read l i h = read-at m d l i ∙ ap m (List·getD-eq-default l d h) ∙ z
+
+    pub read-zeros : (n : ℕ) (f : Series) → read m d (replicate n d) ≡ cut 0 f
+    read-zeros n f = fun-ext (λ i. read-at m d (replicate n d) i ∙ ap m (same n i) ∙ z ∙ sym (O-at i)) ∙ sym (cut-none f)
+      where
+        same : (n i : ℕ) → getD (replicate n d) i d ≡ d
+        same zero i = refl
+        same (suc n) zero = refl
+        same (suc n) (suc i) = same n i
+
+  pub read-store : (l : List A) (i : ℕ) (v : A) (f : Series) → i < length l → read m d l ≡ cut i f → m v ≡ f i
+      → read m d (set l i v) ≡ cut (i + 1) f
+  read-store l i v f h e q = sym (cut-unique (i + 1) f _ (λ k l. low k l (ℕ-discrete k i)) high)
+    where
+      low : (k : ℕ) → k < i + 1 → Dec (k ≡ i) → f k ≡ read m d (set l i v) k
+      low k r (yes s) = rw s (sym (read-set-same l i v h ∙ q))
+      low k r (no s) = sym (read-set-other l i k v s ∙ ap (λ (g : Series). g k) e ∙ cut-low i f k (omega arith))
+
+      high : (k : ℕ) → i + 1 ≤ k → read m d (set l i v) k ≡ 𝟎
+      high k r = read-set-other l i k v (omega arith) ∙ ap (λ (g : Series). g k) e ∙ cut-high i f k (omega arith)
