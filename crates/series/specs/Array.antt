@@ -4,22 +4,22 @@
 --   bytes l      an array of bytes
 --   read m d l   the general form: entries of any type, m gives the value of an entry, d is an entry with the value zero
 --
--- A loop that fills an array with f from the front keeps the equation `read l ≡ cut i f`: it begins with read-zeros, goes on by read-store, and
--- ends by below-cut-eq.
+--   Filled n i f l   the array l of n entries holds the first i coefficients of f, then zeros
+--
+-- A loop that fills an array with f from the front keeps `Filled`: it begins with filled-none, goes on by filled-more, and ends by filled-all.
 use Prim.Native.Nat.{ℕ, zero, suc, _+_, _≤_, _<_}
 use mathlib.Core.Path.{_≡_, refl, sym, ap, _∙_, fun-ext}
 use mathlib.Core.Logic.{_≢_}
 use mathlib.Core.List.{List}
 use native.Mathlib.Decide.{ℕ-discrete}
-use native.Mathlib.Numerals.{add-one}
 use native.Mathlib.Omega.{arith}
-use lib.ListN.{length, getD, set, replicate, List·getD-eq-default}
+use lib.ListN.{length, getD, set, replicate, length-set, length-replicate, List·getD-eq-default}
 use lib.Seq.{getD-set-same, getD-set-other}
 use Rattle.field.specs.declared.Gf.{Gf}
 use Rattle.field.specs.Field.{F, 𝟎, of, val, of-zero, val-zero}
 use Rattle.series.specs.Series.{Series, O, O-at}
-use Rattle.series.specs.Shift.{cut, cut-low, cut-high, cut-unique, cut-none}
-use Rattle.series.specs.Degree.{below}
+use Rattle.series.specs.Shift.{cut, cut-low, cut-high, cut-unique, cut-none, cut-zero}
+use Rattle.series.specs.Degree.{below, below-weaken, below-cut-eq}
 
 unfoldable pub read : {A : Type 0} → (A → F) → A → List A → Series
 read m d l i = m (getD l i d)
@@ -63,3 +63,26 @@ module _ {A : Type 0} (m : A → F) (d : A) where
 
       high : (k : ℕ) → i + 1 ≤ k → read m d (set l i v) k ≡ 𝟎
       high k r = read-set-other l i k v (omega arith) ∙ ap (λ (g : Series). g k) e ∙ cut-high i f k (omega arith)
+
+-- ---- filling an array of `Gf` from the front
+
+pub below-values : (n : ℕ) (l : List Gf) → length l ≡ n → below n (values l)
+below-values n l h = rw h at (below-read val _ val-zero l)
+
+pub record Filled (n i : ℕ) (f : Series) (l : List Gf) : Type 0 where
+  pub long : length l ≡ n
+  pub is : values l ≡ cut i f
+
+pub filled-none : (n : ℕ) (f : Series) → Filled n 0 f (replicate n (record { 0 = 0 }))
+filled-none n f = record { long = length-replicate n _; is = read-zeros val _ val-zero n f }
+
+pub filled-more : {n i : ℕ} {f : Series} {l : List Gf} (v : Gf) → Filled n i f l → i < n → val v ≡ f i → Filled n (i + 1) f (set l i v)
+filled-more {n} {i} {f} {l} v p h e =
+    record { long = length-set l i v ∙ p .long; is = read-store val _ l i v f (omega (arith, p .long)) (p .is) e }
+
+-- where f is zero the array stays as it is
+pub filled-skip : {n i : ℕ} {f : Series} {l : List Gf} (j : ℕ) → Filled n i f l → f i ≡ 𝟎 → j ≡ i + 1 → Filled n j f l
+filled-skip {n} {i} {f} {l} j p z e = rw e (record { long = p .long; is = p .is ∙ sym (cut-zero i f z) })
+
+pub filled-all : {n i : ℕ} {f : Series} {l : List Gf} (k : ℕ) → Filled n i f l → k ≤ i → below k f → values l ≡ f
+filled-all {n} {i} {f} {l} k p h b = p .is ∙ below-cut-eq i f (below-weaken k i f b h)

@@ -10,11 +10,12 @@ use Prim.Native.Nat.{ℕ, zero, suc, _+_, _-_, _≤_, _<_}
 use mathlib.Core.Path.{_≡_, refl, sym, ap, _∙_, fun-ext}
 use mathlib.Core.Logic.{_≢_, ite, if-pos, if-neg}
 use native.Mathlib.Nat.{zero-add, suc-add, add-zero, add-suc}
+use native.Mathlib.Numerals.{add-one}
 use native.Mathlib.Omega.{arith}
 use native.Mathlib.Decide.{decLt, ℕ-discrete}
 use Rattle.field.specs.Field.{F, 𝟎, 𝟏, zero-⊕, ⊕-zero, one-⊙, ⊙-one, ⊙-zero}
 use Rattle.series.specs.Series.{Series, O, K, Z, _⊞_, _⊠_, tail, ⊠-ring, O-at, K-at0, K-suc, ⊞-at, tail-at, K-⊠-at, Z-⊠-at0, Z-⊠-at}
-use Rattle.series.specs.Series.{⊠-assoc, ⊠-one, one-⊠, ⊠-agree}
+use Rattle.series.specs.Series.{⊞-zero, ⊠-assoc, ⊠-one, one-⊠, zero-⊠, K-zero, ⊠-agree}
 
 unfoldable pub zpow : ℕ → Series
 zpow zero = K 𝟏
@@ -131,6 +132,10 @@ cut-suc n f = cut-unique (suc n) f _ (λ i l. low i l (ℕ-discrete i n)) (λ i 
     high : (i : ℕ) → suc n ≤ i → (cut n f ⊞ K (f n) ⊠ zpow n) i ≡ 𝟎
     high i l = simp (⊞-at, K-⊠-at, cut-high n f i (omega arith), zpow-other n i (omega arith), ⊙-zero, zero-⊕)
 
+-- a coefficient that is zero may be cut off
+pub cut-zero : (n : ℕ) (f : Series) → f n ≡ 𝟎 → cut (n + 1) f ≡ cut n f
+cut-zero n f h = rw (add-one, cut-suc, h, K-zero, zero-⊠, ⊞-zero)
+
 pub cut-head : (n : ℕ) (f : Series) → cut (suc n) f ≡ K (f 0) ⊞ Z ⊠ cut n (tail f)
 cut-head n f = cut-unique (suc n) f _ low high
   where
@@ -145,6 +150,10 @@ cut-head n f = cut-unique (suc n) f _ low high
 pub cut-⊞ : (n : ℕ) (f g : Series) → cut n (f ⊞ g) ≡ cut n f ⊞ cut n g
 cut-⊞ n f g =
     cut-unique n _ _ (λ i l. simp (⊞-at, cut-low n f i l, cut-low n g i l)) (λ i l. simp (⊞-at, cut-high n f i l, cut-high n g i l, zero-⊕))
+
+pub cut-K-⊠ : (n : ℕ) (a : F) (f : Series) → cut n (K a ⊠ f) ≡ K a ⊠ cut n f
+cut-K-⊠ n a f =
+    cut-unique n _ _ (λ i l. rw (K-⊠-at, K-⊠-at a (cut n f), cut-low n f i l)) (λ i l. rw (K-⊠-at, cut-high n f i l) (⊙-zero a))
 
 pub cut-⊠ : (n : ℕ) (f g : Series) (i : ℕ) → i < n → (f ⊠ cut n g) i ≡ (f ⊠ g) i
 cut-⊠ n f g i h = ⊠-agree f (cut n g) g i (λ j l. cut-low n g j (omega arith))

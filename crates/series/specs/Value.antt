@@ -13,12 +13,12 @@ use mathlib.Core.Path.{_≡_, refl, sym, ap, ap₂, _∙_, fun-ext}
 use mathlib.Core.Logic.{_≢_}
 use native.Mathlib.Nat.{zero-add, suc-add}
 use native.Mathlib.Omega.{arith}
-use Rattle.field.specs.Field.{F, 𝟎, 𝟏, _⊕_, _⊙_, ⊕-assoc, ⊕-self-left, ⊕-zero, zero-⊕, ⊙-assoc, ⊙-left-comm, ⊙-one, one-⊙, ⊙-zero, zero-⊙}
+use Rattle.field.specs.Field.{F, 𝟎, 𝟏, _⊕_, _⊙_, ⊕-assoc, ⊕-comm, ⊕-self-left, ⊕-zero, zero-⊕, ⊙-assoc, ⊙-left-comm, ⊙-one, one-⊙, ⊙-zero, zero-⊙}
 use Rattle.field.specs.Field.{⊙-⊕, ⊕-⊙, ⊙-ring, pow, pow-zero, pow-suc, pow-add, pow-⊙, one-pow}
 use Rattle.series.specs.Sum.{sum, sum-none, sum-suc, sum-head, sum-cong, sum-zero, sum-more, sum-split, sum-⊕, ⊙-sum, sum-⊙, sum-swap}
 use Rattle.series.specs.Series.{Series, O, K, Z, _⊞_, _⊠_, tail, ⊠-ring, ⊞-lc}
 use Rattle.series.specs.Series.{O-at, K-at0, Z-at0, ⊞-at, ⊠-at, tail-at, K-⊠-at, Z-⊠-at0, zero-⊠, head-tail, tail-Z-⊠}
-use Rattle.series.specs.Shift.{zpow, drop, zpow-zero, zpow-suc, drop-at}
+use Rattle.series.specs.Shift.{zpow, drop, zpow-zero, zpow-suc, drop-at, drop-at0, drop-suc}
 use Rattle.series.specs.Degree.{below, below-weaken, below-K, below-Z, below-⊞, below-⊠, below-K-⊠, below-none, below-tail}
 
 unfoldable pub value : ℕ → Series → F → F
@@ -60,6 +60,15 @@ unfolding value
 value-head n f x =
     sum-head n _
     ∙ ap₂ _⊕_ (rw pow-zero (⊙-one (f 0))) (sum-cong n _ _ (λ i l. rw (tail-at, pow-suc) (⊙-left-comm _ _ _)) ∙ sym (⊙-sum x n _))
+
+-- Horner's rule, from the top
+pub value-horner : (n : ℕ) (f : Series) (x : F) (i : ℕ) → 0 < i → i ≤ n
+    → value (n - (i - 1)) (drop (i - 1) f) x ≡ x ⊙ value (n - i) (drop i f) x ⊕ f (i - 1)
+value-horner n f x zero p h = absurd (omega arith)
+value-horner n f x (suc i) p h =
+    let e : suc i - 1 ≡ i = omega arith in
+    let k : n - i ≡ suc (n - suc i) = omega arith in
+    rw (e, k) (value-head (n - suc i) (drop i f) x ∙ rw (drop-at0, ← drop-suc) (⊕-comm _ _))
 
 -- ---- sums and products
 

@@ -1,0 +1,16 @@
+-- Shared to Claim are the definitions, in the order of document 01; the others prove: Length to Ends that the forms agree, Shortest what they find.
+pub mod Shared
+pub mod Plain
+pub mod Lookahead
+pub mod Scaled
+pub mod Run
+pub mod Claim
+pub mod Length
+pub mod Ahead
+pub mod LookaheadStep
+pub mod ScaledStep
+pub mod Measure
+pub mod Walk
+pub mod Agreement
+pub mod Ends
+pub mod Shortest

@@ -1,0 +1,78 @@
+-- d is the sum of the first i terms. Those before first_term and from end_of_terms on are zero.
+use Prim.Native.Nat.{_+_, _-_, _≤_}
+use mathlib.Core.Path.{_≡_, sym, _∙_}
+use native.Mathlib.Omega.{arith}
+use Rattle.field.specs.Field.{val, val-zero}
+use Rattle.series.specs.Array.{values, read-at, below-values}
+use Rattle.polynomial.specs.Partial.{partial, partial-more, partial-early, partial-all}
+use Rattle.polynomial.specs.Polynomial.{poly-values, row-values}
+use borrow.Author.Needs.{needs}
+use Rattle.polynomial.proofs.convolve.Statement.{statement}
+use Rattle.polynomial.proofs.convolve.Tie as tie
+
+abbrev Inv-loop : tie.InvT-loop
+Inv-loop r f s end d₀ i₀ d i = (i ≤ r + 1) × (r ≤ i + 47) × (val d ≡ partial (values f) (values s) r i)
+
+abbrev μ-loop : tie.MeasureT-loop
+μ-loop r f s end d₀ i₀ d i = 49 - i
+
+end-of-terms-requires : tie.Need-end-of-terms-requires Inv-loop μ-loop
+end-of-terms-requires c κs = search needs
+
+first-term-requires : tie.Need-first-term-requires Inv-loop μ-loop
+first-term-requires c κs = search needs
+
+loop-holds : tie.Need-loop-holds Inv-loop μ-loop
+loop-holds c =
+    let given = c .before .before .args in
+    (omega arith, omega arith, val-zero ∙ sym (partial-early 48 _ _ _ _ (below-values 48 (given .t2) (omega arith)) (omega arith)))
+
+array-copy-out-product : tie.Need-array-copy-out-product Inv-loop μ-loop
+array-copy-out-product c = search needs
+
+sub-product : tie.Need-sub-product Inv-loop μ-loop
+sub-product c = search needs
+
+array-copy-out-product-2 : tie.Need-array-copy-out-product-2 Inv-loop μ-loop
+array-copy-out-product-2 c = search needs
+
+product-requires : tie.Need-product-requires Inv-loop μ-loop
+product-requires c κs = search needs
+
+sum-requires : tie.Need-sum-requires Inv-loop μ-loop
+sum-requires c κs = search needs
+
+add-i : tie.Need-add-i Inv-loop μ-loop
+add-i c = search needs
+
+loop-less : tie.Need-loop-less Inv-loop μ-loop
+loop-less c = search needs
+
+loop-again : tie.Need-loop-again Inv-loop μ-loop
+loop-again c = (omega arith, omega arith, rw (partial-more, read-at, read-at) (cc))
+
+returns : tie.Need-returns Inv-loop μ-loop
+returns c =
+    let given = c .before .before .before .before .args in
+    let end = c .before .loop in
+    rw (poly-values (given .t1) (omega arith), row-values (given .t2) (omega arith))
+    (end .inv .2 ∙ partial-all 49 _ _ _ (end .i) (below-values 49 (given .t1) (omega arith)) (end .inv .0) (λ h. omega arith))
+
+pub convolve-spec : {M : Type 1} → statement M
+convolve-spec =
+    tie.close
+    (tie.spec
+    Inv-loop
+    μ-loop
+    end-of-terms-requires
+    first-term-requires
+    loop-holds
+    array-copy-out-product
+    sub-product
+    array-copy-out-product-2
+    product-requires
+    sum-requires
+    add-i
+    loop-less
+    loop-again
+    returns)

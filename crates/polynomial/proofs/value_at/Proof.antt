@@ -1,0 +1,63 @@
+-- v is the value of f divided by z^i, what stands below dropped.
+use Prim.Native.Nat.{_-_, _≤_}
+use mathlib.Core.Path.{_≡_, sym, _∙_}
+use native.Mathlib.Omega.{arith}
+use Rattle.field.specs.Field.{val, val-zero}
+use Rattle.series.specs.Shift.{drop, drop-none}
+use Rattle.series.specs.Value.{value, value-none, value-horner}
+use Rattle.series.specs.Array.{values, read-at}
+use Rattle.polynomial.specs.Polynomial.{poly-values}
+use borrow.Author.Needs.{needs}
+use Rattle.polynomial.proofs.value_at.Statement.{statement}
+use Rattle.polynomial.proofs.value_at.Tie as tie
+
+abbrev Inv-loop : tie.InvT-loop
+Inv-loop x f v₀ i₀ v i = (i ≤ 49) × (val v ≡ value (49 - i) (drop i (values f)) (val x))
+
+abbrev μ-loop : tie.MeasureT-loop
+μ-loop x f v₀ i₀ v i = i
+
+loop-holds : tie.Need-loop-holds Inv-loop μ-loop
+loop-holds c =
+    (search needs, val-zero ∙ sym (value-none _ _))
+
+sub-i : tie.Need-sub-i Inv-loop μ-loop
+sub-i c = search needs
+
+product-requires : tie.Need-product-requires Inv-loop μ-loop
+product-requires c κs = search needs
+
+array-copy-out-sum : tie.Need-array-copy-out-sum Inv-loop μ-loop
+array-copy-out-sum c = search needs
+
+sum-requires : tie.Need-sum-requires Inv-loop μ-loop
+sum-requires c κs = search needs
+
+loop-less : tie.Need-loop-less Inv-loop μ-loop
+loop-less c = search needs
+
+loop-again : tie.Need-loop-again Inv-loop μ-loop
+loop-again c =
+    let now = c .before .before .before .before .loop in
+    (omega arith, rw (value-horner 49 _ _ (now .i) (omega arith) (now .inv .0), read-at) (cc))
+
+returns : tie.Need-returns Inv-loop μ-loop
+returns c =
+    let end = c .before .loop in
+    let e : end .i ≡ 0 = omega arith in
+    rw (poly-values (c .before .before .args .t1) (omega arith)) (rw (e, drop-none) at (end .inv .1))
+
+pub value-at-spec : {M : Type 1} → statement M
+value-at-spec =
+    tie.close
+    (tie.spec
+    Inv-loop
+    μ-loop
+    loop-holds
+    sub-i
+    product-requires
+    array-copy-out-sum
+    sum-requires
+    loop-less
+    loop-again
+    returns)

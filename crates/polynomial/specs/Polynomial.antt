@@ -1,0 +1,44 @@
+-- Arrays of 49 coefficients and tables of 48 syndromes, as series.
+--
+--   poly l   the polynomial of an array of 49 coefficients
+--   row l    a table of 48 syndromes: the sequence that it holds, then zeros
+--
+-- Both cut what an array cannot hold, so that they have their degree whatever the list is.
+use Prim.Native.Nat.{ℕ, _<_}
+use mathlib.Core.Path.{_≡_, _∙_}
+use mathlib.Core.List.{List}
+use lib.ListN.{length, getD}
+use Rattle.field.specs.declared.Gf.{Gf}
+use Rattle.field.specs.Field.{val}
+use Rattle.series.specs.Series.{Series}
+use Rattle.series.specs.Shift.{cut, cut-low}
+use Rattle.series.specs.Degree.{below, below-cut, below-cut-eq}
+use Rattle.series.specs.Array.{values, read-at, below-values}
+
+unfoldable pub poly : List Gf → Series
+poly l = cut 49 (values l)
+
+unfoldable pub row : List Gf → Series
+row l = cut 48 (values l)
+
+pub below-poly : (l : List Gf) → below 49 (poly l)
+unfolding poly
+below-poly l = below-cut 49 (values l)
+
+pub below-row : (l : List Gf) → below 48 (row l)
+unfolding row
+below-row l = below-cut 48 (values l)
+
+-- an array's entry
+pub poly-at : (l : List Gf) (i : ℕ) → i < 49 → poly l i ≡ val (getD l i (record { 0 = 0 }))
+unfolding poly
+poly-at l i h = cut-low 49 (values l) i h ∙ read-at val _ l i
+
+-- nothing is cut off an array
+pub poly-values : (l : List Gf) → length l ≡ 49 → poly l ≡ values l
+unfolding poly
+poly-values l h = below-cut-eq 49 (values l) (below-values 49 l h)
+
+pub row-values : (l : List Gf) → length l ≡ 48 → row l ≡ values l
+unfolding row
+row-values l h = below-cut-eq 48 (values l) (below-values 48 l h)
