@@ -4,29 +4,161 @@
 --   Claim s    what the sample says, in the words of the definitions
 --   samples    the table
 --   proved     every entry's claim holds
-use mathlib.Core.Path.{_≡_, refl}
-use mathlib.Core.Bool.{xor}
-use mathlib.Core.List.{List, [], _∷_}
-use Prim.Native.Nat.{ℕ}
-use Rattle.field.specs.Definition.{of, byte, _⊙_, isOdd, bit, 𝟎, _⊕_, plus, times, scale, z⁸, horner, modulo, coefficients}
+--
+-- A run's polynomials are equal to those of the sample at every coefficient: below n + 1, n being the number of syndromes, antt computes both; from there
+-- on both are zero.
+use Prim.Native.Nat.{ℕ, zero, suc, _≤_, _<_}
+use mathlib.Core.Path.{_≡_, refl, sym, ap, _∙_, fun-ext}
+use mathlib.Core.Bool.{Bool, true, false, xor, _&&_}
+use mathlib.Core.List.{List, [], _∷_, map}
+use native.Mathlib.Decide.{decLt}
+use native.Mathlib.Omega.{arith}
+use lib.Dec.{T, eqb, leb, eqb→eq, leb→le}
+use lib.IntN.{ℤ, pos, negsuc}
+use lib.ListN.{length}
+use Rattle.field.specs.Definition.{F, 𝟎, 𝟏, _⊕_, _⊙_, of, byte, isOdd, bit, isZero, pow, inv, plus, times, scale, z⁸, horner, modulo, coefficients}
+use Rattle.field.specs.Field.{byte-inj}
+use Rattle.field.specs.Test.{all, all-at, and-both}
+use Rattle.series.specs.Sum.{sum}
+use Rattle.series.specs.Series.{Series, O, K, Z, _⊞_, _⊠_}
+use Rattle.series.specs.Degree.{below, below-K-⊠}
+use Rattle.series.specs.Word.{entry, entry-past}
+use Rattle.iteration.specs.Shared.{swaps, from-to}
+use Rattle.iteration.specs.Plain as Plain
+use Rattle.iteration.specs.Run.{Factors, plain, scaled, joined, measure, factors}
+use Rattle.iteration.specs.Measure.{measure-below}
+use Rattle.iteration.specs.Ends.{finish, plain-end, scaled-end, scaled-end-Λ, scaled-end-B}
+
+-- the bytes of a polynomial or of a list of syndromes, lowest power first
+abbrev pub bytes : List ℕ → Series
+bytes l = entry (map of l)
 
 pub data Sample : Type 0 where
-  product : ℕ → ℕ → ℕ → Sample
+  -- a × b = c
+  product : (a b c : ℕ) → Sample
+  -- the state after one round of these syndromes, in the plain form
+  plain-run : (S Λ B : List ℕ) (γ : ℕ) (k : ℤ) → Sample
+  -- and in the scaled form
+  scaled-run : (S Λ B : List ℕ) (γ′ : ℕ) → Sample
 
 unfoldable pub Claim : Sample → Type 0
 Claim (product a b c) = byte (of a ⊙ of b) ≡ c
+Claim (plain-run S Λ B γ k) = finish plain (map of S ∷ []) .state ≡ record { Λ = bytes Λ; B = bytes B; γ = of γ; k = k }
+Claim (scaled-run S Λ B γ′) =
+    (finish scaled (map of S ∷ []) .state .Λ ≡ bytes Λ) × (finish scaled (map of S ∷ []) .state .B ≡ bytes B) × (finish scaled (map of S ∷ []) .state .γ′ ≡ of γ′)
 
+-- where the paper leaves γ or k out, the model's stands here
 unfoldable pub samples : List Sample
 samples =
     product 2 128 29  -- P1
     ∷ product 2 142 1  -- P2
     ∷ product 3 244 1  -- P3
+    ∷ plain-run (2 ∷ 4 ∷ []) (2 ∷ 4 ∷ []) (0 ∷ 1 ∷ []) 2 (pos 0)  -- P6
+    ∷ scaled-run (2 ∷ 4 ∷ []) (1 ∷ 2 ∷ []) (0 ∷ 1 ∷ []) 2  -- P6
+    ∷ plain-run (0 ∷ 1 ∷ []) (1 ∷ 0 ∷ 1 ∷ []) (1 ∷ []) 1 (negsuc 1)  -- P7, k = −2
+    ∷ plain-run (3 ∷ 5 ∷ 9 ∷ 17 ∷ []) (34 ∷ 102 ∷ 68 ∷ []) (0 ∷ 3 ∷ 5 ∷ []) 10 (pos 0)  -- P8
+    ∷ plain-run (0 ∷ 0 ∷ 0 ∷ 0 ∷ []) (1 ∷ []) (0 ∷ 0 ∷ 0 ∷ 0 ∷ 1 ∷ []) 1 (pos 4)  -- P9
     ∷ []
 
 unfoldable pub All : (Sample → Type 0) → List Sample → Type 0
 All P [] = Unit {0}
 All P (s ∷ ss) = P s × All P ss
 
+-- ---- the test that antt computes
+
+-- f and l agree below n, and l has no more than n
+same : ℕ → Series → List ℕ → Bool
+same n f l = leb (length (map of l)) n && all n (λ i. eqb (byte (f i)) (byte (bytes l i)))
+
+same-is : (n : ℕ) (f : Series) (l : List ℕ) → below n f → T (same n f l) → f ≡ bytes l
+unfolding same
+same-is n f l b t = fun-ext (λ i. go i (decLt i n))
+  where
+    tests : T (leb (length (map of l)) n) × T (all n (λ i. eqb (byte (f i)) (byte (bytes l i))))
+    tests = and-both (leb (length (map of l)) n) _ t
+
+    go : (i : ℕ) → Dec (i < n) → f i ≡ bytes l i
+    go i (yes q) = byte-inj _ _ (eqb→eq _ _ (all-at n (λ i. eqb (byte (f i)) (byte (bytes l i))) (tests .1) i q))
+    go i (no q) = b i (omega arith) ∙ sym (entry-past (map of l) i (omega (arith, leb→le (length (map of l)) n (tests .0))))
+
+equal : F → F → Bool
+equal x y = eqb (byte x) (byte y)
+
+equal-is : (x y : F) → T (equal x y) → x ≡ y
+unfolding equal
+equal-is x y t = byte-inj x y (eqb→eq _ _ t)
+
+sameℤ : ℤ → ℤ → Bool
+sameℤ (pos a) (pos b) = eqb a b
+sameℤ (pos a) (negsuc b) = false
+sameℤ (negsuc a) (pos b) = false
+sameℤ (negsuc a) (negsuc b) = eqb a b
+
+sameℤ-is : (a b : ℤ) → T (sameℤ a b) → a ≡ b
+unfolding sameℤ
+sameℤ-is (pos a) (pos b) t = ap pos (eqb→eq a b t)
+sameℤ-is (pos a) (negsuc b) t = absurd t
+sameℤ-is (negsuc a) (pos b) t = absurd t
+sameℤ-is (negsuc a) (negsuc b) t = ap negsuc (eqb→eq a b t)
+
+-- one round, and its length
+abbrev J : List ℕ → Series
+J S = entry (joined (map of S ∷ []))
+
+abbrev n : List ℕ → ℕ
+n S = length (joined (map of S ∷ []))
+
+plain-test : (S Λ B : List ℕ) (γ : ℕ) (k : ℤ) → Plain.State → Bool
+plain-test S Λ B γ k m = same (suc (n S)) (m .Λ) Λ && (same (suc (n S)) (m .B) B && (equal (m .γ) (of γ) && sameℤ (m .k) k))
+
+scaled-test : (S Λ B : List ℕ) (γ′ : ℕ) → Plain.State → Factors → Bool
+scaled-test S Λ B γ′ m x =
+    same (suc (n S)) (K (x .a) ⊠ m .Λ) Λ && (same (suc (n S)) (K (x .b) ⊠ m .B) B && equal (x .b ⊙ m .γ) (of γ′))
+
+test : Sample → Bool
+test (product a b c) = eqb (byte (of a ⊙ of b)) c
+test (plain-run S Λ B γ k) = plain-test S Λ B γ k (measure (J S) (n S))
+test (scaled-run S Λ B γ′) = scaled-test S Λ B γ′ (measure (J S) (n S)) (factors (J S) (n S))
+
+holding : (s : Sample) → T (test s) → Claim s
+unfolding test Claim plain-test scaled-test
+holding (product a b c) t = eqb→eq _ c t
+holding (plain-run S Λ B γ k) t =
+    let m = measure (J S) (n S) in
+    let (t0, t1) = and-both (same (suc (n S)) (m .Λ) Λ) _ t in
+    let (t2, t3) = and-both (same (suc (n S)) (m .B) B) _ t1 in
+    let (t4, t5) = and-both (equal (m .γ) (of γ)) _ t3 in
+    plain-end (map of S ∷ []) ∙ λ i. record {
+      Λ = same-is _ _ Λ (measure-below (J S) (n S) .0) t0 i;
+      B = same-is _ _ B (measure-below (J S) (n S) .1) t2 i;
+      γ = equal-is _ _ t4 i;
+      k = sameℤ-is (m .k) k t5 i;
+    }
+holding (scaled-run S Λ B γ′) t =
+    let m = measure (J S) (n S) in
+    let x = factors (J S) (n S) in
+    let (t0, t1) = and-both (same (suc (n S)) (K (x .a) ⊠ m .Λ) Λ) _ t in
+    let (t2, t3) = and-both (same (suc (n S)) (K (x .b) ⊠ m .B) B) _ t1 in (
+      scaled-end-Λ (map of S ∷ []) ∙ same-is _ _ Λ (below-K-⊠ _ _ _ (measure-below (J S) (n S) .0)) t0,
+      scaled-end-B (map of S ∷ []) ∙ same-is _ _ B (below-K-⊠ _ _ _ (measure-below (J S) (n S) .1)) t2,
+      ap (λ s. s .γ′) (scaled-end (map of S ∷ [])) ∙ equal-is _ _ t3,
+    )
+
+tests : List Sample → Bool
+tests [] = true
+tests (s ∷ ss) = test s && tests ss
+
+all-holding : (ss : List Sample) → T (tests ss) → All Claim ss
+unfolding tests All
+all-holding [] t = tt
+all-holding (s ∷ ss) t = let (t0, t1) = and-both (test s) _ t in (holding s t0, all-holding ss t1)
+
+computed : T (tests samples)
+unfolding tests test plain-test scaled-test same equal sameℤ samples all joined entry measure factors Plain.iterate Plain.δ swaps from-to sum O K Z _⊞_ _⊠_
+    𝟎 𝟏 _⊕_ _⊙_ of byte isOdd bit isZero pow inv plus times scale z⁸ horner modulo coefficients xor
+computed = tt
+
+-- ---- the theorem
+
 pub proved : All Claim samples
-unfolding All Claim samples of byte _⊙_ isOdd bit 𝟎 _⊕_ plus times scale z⁸ horner modulo coefficients xor
-proved = (refl, (refl, (refl, tt)))
+proved = all-holding samples computed

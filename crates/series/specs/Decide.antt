@@ -11,7 +11,7 @@ use mathlib.Core.Bool.{true, false, decide-iff}
 use native.Mathlib.Omega.{arith}
 use native.Mathlib.Decide.{ℕ-discrete}
 use lib.Dec.{T}
-pub use mathlib.Core.Bool.{decide as holds}
+unfoldable pub use mathlib.Core.Bool.{decide as holds}
 
 pub holds-yes : {A : Type 0} (d : Dec A) → A → holds d ≡ true
 holds-yes d a = decide-iff d .1 a
