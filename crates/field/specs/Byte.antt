@@ -149,6 +149,10 @@ isZero-false x e z = eqb-false (byte x) 0 e (ap byte z ∙ byte-zero)
 
 -- ---- the values of a `Gf`
 
+pub val-of : (g : Gf) → val g ≡ of (g .0)
+unfolding val
+val-of g = refl
+
 pub val-is-zero : (g : Gf) → g .0 ≡ 0 → val g ≡ 𝟎
 unfolding val
 val-is-zero g e = ap of e ∙ of-zero

@@ -5,7 +5,7 @@
 --
 -- Both cut what an array cannot hold, so that they have their degree whatever the list is.
 use Prim.Native.Nat.{ℕ, _<_}
-use mathlib.Core.Path.{_≡_, _∙_}
+use mathlib.Core.Path.{_≡_, sym, ap, _∙_}
 use mathlib.Core.List.{List}
 use lib.ListN.{length, getD}
 use Rattle.field.specs.declared.Gf.{Gf}
@@ -28,6 +28,9 @@ below-poly l = below-cut 49 (values l)
 pub below-row : (l : List Gf) → below 48 (row l)
 unfolding row
 below-row l = below-cut 48 (values l)
+
+pub poly-cut : (l : List Gf) (f : Series) → poly l ≡ f → poly l ≡ cut 49 f
+poly-cut l f h = sym (below-cut-eq 49 (poly l) (below-poly l)) ∙ ap (cut 49) h
 
 -- an array's entry
 pub poly-at : (l : List Gf) (i : ℕ) → i < 49 → poly l i ≡ val (getD l i (record { 0 = 0 }))

@@ -57,6 +57,9 @@ below-Z = rw ⊠-one at (below-Z-⊠ 1 (K 𝟏) (below-K 𝟏))
 pub below-tail : (n : ℕ) (f : Series) → below (suc n) f → below n (tail f)
 below-tail n f p i l = tail-at f i ∙ p (suc i) (omega arith)
 
+pub below-tail-weak : (n : ℕ) (f : Series) → below n f → below n (tail f)
+below-tail-weak n f p i l = tail-at f i ∙ p (suc i) (omega arith)
+
 pub below-drop : (n r : ℕ) (f : Series) → below n f → below (n - r) (drop r f)
 below-drop n r f p i l = drop-at r f i ∙ p (r + i) (omega arith)
 

@@ -1,0 +1,12 @@
+-- The views and Solver are the definitions that the promises speak of; the others prove them.
+pub mod PlainView
+pub mod LookaheadView
+pub mod ScaledView
+pub mod Rounds
+pub mod Solver
+pub mod Turn
+pub mod Step
+pub mod PlainStep
+pub mod LookaheadStep
+pub mod ScaledStep
+pub mod Signed
