@@ -1,10 +1,7 @@
--- The views and Solver are the definitions that the promises speak of; the others prove them.
+-- The views are what the promises speak of; the others prove them.
 pub mod PlainView
 pub mod LookaheadView
 pub mod ScaledView
-pub mod Rounds
-pub mod Solver
-pub mod Turn
 pub mod Step
 pub mod PlainStep
 pub mod LookaheadStep
