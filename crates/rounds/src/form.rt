@@ -5,7 +5,9 @@ ghost use Rattle.polynomial.specs.Polynomial.{row};
 ghost use Rattle.iteration.specs.Length.{k-of};
 ghost use Rattle.rounds.specs.Solver.{form-of, Is, clip, k-in};
 use field::Gf;
-use solver::{Lookahead, Plain, Scaled};
+use solver::Lookahead;
+use solver::Plain;
+use solver::Scaled;
 
 // Document 01's plain, ahead and scaled.
 pub enum Form {

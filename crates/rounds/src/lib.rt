@@ -2,5 +2,7 @@
 mod form;
 mod walk;
 
-pub use form::{Form, Solver};
-pub use walk::{run, Progress};
+pub use form::Form;
+pub use form::Solver;
+pub use walk::Progress;
+pub use walk::run;

@@ -7,4 +7,5 @@ mod shared;
 pub use lookahead::Lookahead;
 pub use plain::Plain;
 pub use scaled::Scaled;
-pub use shared::{k, swaps};
+pub use shared::k;
+pub use shared::swaps;
