@@ -4,20 +4,20 @@
 --   logTable     what the code's table of logarithms holds: at b the logarithm of b, at 0 (never used) 0
 --
 -- Proved: pow-log, log-pow, log-lt; the inverse; the tables' rule.
-use mathlib.Core.Path.{_≡_, refl, ap, ap₂, sym, _∙_, subst}
-use mathlib.Core.Bool.{Bool, true, false, xor, _&&_, _||_, cond}
+use mathlib.Core.Path.{_≡_, refl, ap, sym, _∙_}
+use mathlib.Core.Bool.{Bool, true, false, xor, _&&_, _||_}
 use mathlib.Core.Logic.{_≢_}
 use mathlib.Core.List.{List, [], _∷_, _++_}
-use Prim.Native.Nat.{ℕ, zero, suc, _+_, _*_, _-_, _/_, _%_, _<_, _≤_}
-use native.Mathlib.Nat.{add-zero, zero-add, add-suc, suc-add, mul-comm, div-add-mod'}
+use Prim.Native.Nat.{ℕ, zero, suc, _+_, _-_, _<_}
+use native.Mathlib.Nat.{add-zero, zero-add, add-suc, suc-add}
 use native.Mathlib.Omega.{arith}
 use lib.Dec.{T, eqb, ltb, eqb→eq, ltb→lt}
 use lib.ListN.{length, getD, List·getD-append}
-use Rattle.field.specs.Definition.{F, 𝟎, 𝟏, α, _⊕_, plus, times, scale, z⁸, horner, modulo, coefficients, _⊙_, pow, inv, isOdd, of, bit, byte, powers, place, logOf, log}
-use Rattle.field.specs.Product.{⊙-assoc, ⊙-comm, ⊙-left-comm, ⊙-one, one-⊙, ⊙-zero, zero-⊙, one≢zero, alpha≢zero}
+use Rattle.field.specs.Definition.{F, 𝟎, 𝟏, α, _⊕_, plus, times, scale, z⁸, horner, modulo, coefficients, _⊙_, pow, of, bit, byte, powers, place, logOf, log}
+use Rattle.field.specs.Product.{⊙-assoc, ⊙-left-comm, ⊙-one, one-⊙}
 use Rattle.field.specs.Test.{all, all-at, and-both}
-use Rattle.field.specs.Byte.{of-byte, byte-of, byte-lt, byte-inj, byte-zero}
-use Rattle.field.specs.Power.{pow-zero, pow-suc, pow-one, pow-add, pow-mul, one-pow, pow-⊙}
+use Rattle.field.specs.Byte.{byte-of, byte-lt, byte-inj, byte-zero}
+use Rattle.field.specs.Power.{pow-zero, pow-suc}
 
 -- ---- the powers of α, one after the other
 

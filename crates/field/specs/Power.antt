@@ -1,10 +1,9 @@
 -- The laws of powers.
-use mathlib.Core.Path.{_≡_, refl, ap, ap₂, sym, _∙_}
-use mathlib.Core.Logic.{_≢_}
+use mathlib.Core.Path.{_≡_, refl, ap, _∙_}
 use Prim.Native.Nat.{ℕ, zero, suc, _+_, _*_}
-use native.Mathlib.Nat.{zero-add, suc-add, mul-zero, mul-suc, mul-comm}
-use Rattle.field.specs.Definition.{F, 𝟎, 𝟏, α, _⊕_, _⊙_, pow, inv}
-use Rattle.field.specs.Product.{⊙-assoc, ⊙-comm, ⊙-left-comm, ⊙-one, one-⊙, ⊙-zero, zero-⊙, one≢zero}
+use native.Mathlib.Nat.{zero-add, suc-add, mul-zero, mul-suc}
+use Rattle.field.specs.Definition.{F, 𝟏, _⊙_, pow}
+use Rattle.field.specs.Product.{⊙-assoc, ⊙-comm, ⊙-left-comm, ⊙-one, one-⊙}
 
 pub pow-zero : (x : F) → pow x 0 ≡ 𝟏
 unfolding pow

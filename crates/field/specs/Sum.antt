@@ -2,7 +2,7 @@
 --
 -- Proved: associative, commutative, neutral 𝟎, x ⊕ x ≡ 𝟎, cancellation.
 -- Tools:  `simp ⊕-group` proves an equation of sums; `⊕-lc` proves an equation from a combination of others.
-use mathlib.Core.Path.{_≡_, refl, sym, ap, ap₂, _∙_}
+use mathlib.Core.Path.{_≡_, refl, sym, ap, _∙_}
 use mathlib.Core.Bool.{Bool, true, false, xor}
 use Rattle.field.specs.Definition.{F, poly, 𝟎, _⊕_}
 

@@ -3,7 +3,7 @@
 --   PlainAgrees, LookaheadAgrees, ScaledAgrees   the clauses for a run in that form, after some of its events
 --   Agreed rounds k                              the claim of a list of rounds, after its first k events
 --   lookahead-is, scaled-is                      the whole states, as defined from the measure
-use Prim.Native.Nat.{ℕ, suc, _+_, _-_}
+use Prim.Native.Nat.{ℕ, _+_, _-_}
 use mathlib.Core.Path.{_≡_}
 use mathlib.Core.Logic.{_≢_}
 use mathlib.Core.Bool.{Bool, cond}

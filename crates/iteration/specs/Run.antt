@@ -8,7 +8,7 @@
 --   measure S r        the plain iteration, r times, over the syndromes S; it is fed these and no answer of any form
 --   factors S r        a and b, from the measure alone
 use Prim.Native.Nat.{ℕ, zero, suc}
-use mathlib.Core.Bool.{Bool, true, false, cond}
+use mathlib.Core.Bool.{Bool, false, cond}
 use mathlib.Core.Logic.{ite}
 use mathlib.Core.List.{List, [], _∷_, _++_}
 use native.Mathlib.Decide.{ℕ-discrete}

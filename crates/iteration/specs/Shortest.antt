@@ -9,7 +9,7 @@
 -- Proved: the invariant of the measure; k and the length of document 01 are those of L; the measure's Λ and P are a solution of length L;
 -- no solution is shorter (shortest); a solution that is not too long is a multiple of Λ and P (unique).
 use Prim.Native.Nat.{ℕ, zero, suc, _+_, _-_, _≤_, _<_}
-use mathlib.Core.Path.{_≡_, refl, sym, ap, _∙_, subst}
+use mathlib.Core.Path.{_≡_, sym, ap, _∙_, subst}
 use mathlib.Core.Logic.{_≢_}
 use mathlib.Core.Bool.{Bool, cond}
 use native.Mathlib.Omega.{arith}

@@ -4,7 +4,7 @@
 --   Keeps f want       form f keeps it: at the start, through an entry, through an iteration; and it swaps with the plain form
 --   wanted J known r   where a run in such a form is to be, J being the joined syndromes and `known` those so far
 --
--- Proved: where every run is, as one equation (run-is); how far it has come (iterations-le), and what its end is (end-iterations, end-so-far).
+-- Proved: how many iterations a run has had (run-r); where every run is, as one equation (run-is); how far it has come (iterations-le), and what its end is (end-iterations, end-so-far).
 use Prim.Native.Nat.{ℕ, zero, suc, _+_, _≤_}
 use mathlib.Core.Path.{_≡_, refl, sym, ap, _∙_}
 use mathlib.Core.Logic.{_≢_}
@@ -21,6 +21,17 @@ use Rattle.iteration.specs.Run.{Form, Factors, At, Event, entering, iter
 use Rattle.iteration.specs.Run.{count, entered, iterations, so-far, measure, measure-swapped, next-factors, factors}
 use Rattle.iteration.specs.Ahead.{Agree}
 use Rattle.iteration.specs.Measure.{measure-γ, factors-nonzero, δ-agree}
+
+-- in any form
+after-r : (f : Form) (es : List Event) (p : At f) → after f es p .r ≡ p .r + count es
+unfolding after count
+after-r f [] p = sym (add-zero (p .r))
+after-r f (entering round ∷ es) p = after-r f es (happen f (entering round) p)
+after-r f (iteration ∷ es) p = after-r f es (happen f iteration p) ∙ omega arith
+
+pub run-r : (f : Form) (rounds : List (List F)) (k : ℕ) → run f rounds k .r ≡ iterations rounds k
+unfolding run iterations
+run-r f rounds k = after-r f (take k (events rounds)) (outset f) ∙ zero-add _
 
 pub record Keeps (f : Form) (want : ℕ → Series → Plain.State → Factors → f .State) : Type 0 where
   pub starts : (S : Series) → ((i : ℕ) → S i ≡ 𝟎) → f .start ≡ want 0 S Plain.start (record { a = 𝟏; b = 𝟏 })

@@ -4,19 +4,17 @@
 --   Here f s ns n p k i    after n events of the run over these rounds it is at p; i rounds have been entered, with k syndromes
 --
 -- Proved: every list of rounds is cut from its joined syndromes (cut-joined); the walk's start, an iteration, an entry, and its two ends.
-use Prim.Native.Nat.{ℕ, zero, suc, _+_, _-_, _≤_, _<_, min}
-use mathlib.Core.Path.{_≡_, refl, sym, ap, ap₂, _∙_, subst}
-use mathlib.Core.Bool.{Bool}
+use Prim.Native.Nat.{ℕ, suc, _+_, _-_, _≤_, _<_, min}
+use mathlib.Core.Path.{_≡_, refl, sym, ap, ap₂, _∙_}
 use mathlib.Core.List.{List, [], _∷_, _++_, map, append-assoc, append-nil}
 use native.Mathlib.Decide.{decLe}
-use native.Mathlib.Nat.{add-zero, suc-add, min-eq-left, min-eq-right, min-le-right}
+use native.Mathlib.Nat.{min-eq-left, min-eq-right, min-le-right}
 use native.Mathlib.Numerals.{add-one}
 use native.Mathlib.Omega.{arith}
 use lib.ListN.{length, getD, take, drop, replicate, length-append, length-take, length-drop, take-append-drop, drop-of-length-le}
 use lib.Seq.{take-at, drop-at, take-all, take-length, drop-length, drop-cons, take-add, drop-drop}
 use Rattle.field.specs.Field.{F}
-use Rattle.series.specs.Word.{entry}
-use Rattle.iteration.specs.Run.{Form, At, Event, entering, iteration, joined, events, outset, note, happen, after, run}
+use Rattle.iteration.specs.Run.{Form, At, Event, entering, iteration, joined, events, outset, happen, after, run}
 use Rattle.iteration.specs.Ends.{after-append}
 
 unfoldable pub cut-rounds : List F → List ℕ → List (List F)

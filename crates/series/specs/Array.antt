@@ -16,8 +16,8 @@ use native.Mathlib.Omega.{arith}
 use lib.ListN.{length, getD, set, replicate, length-set, length-replicate, List·getD-eq-default}
 use lib.Seq.{getD-set-same, getD-set-other}
 use Rattle.field.specs.declared.Gf.{Gf}
-use Rattle.field.specs.Field.{F, 𝟎, of, val, of-zero, val-zero}
-use Rattle.series.specs.Series.{Series, O, O-at}
+use Rattle.field.specs.Field.{F, 𝟎, of, val, val-zero}
+use Rattle.series.specs.Series.{Series, O-at}
 use Rattle.series.specs.Shift.{cut, cut-low, cut-high, cut-unique, cut-none, cut-zero}
 use Rattle.series.specs.Degree.{below, below-weaken, below-cut-eq}
 

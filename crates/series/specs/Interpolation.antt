@@ -13,7 +13,7 @@ use mathlib.Core.Path.{_≡_, refl, sym, _∙_, ap, fun-ext}
 use mathlib.Core.Logic.{_≢_, by-cases}
 use native.Mathlib.Omega.{arith}
 use native.Mathlib.Decide.{decLe}
-use Rattle.field.specs.Field.{F, 𝟎, 𝟏, _⊕_, _⊙_, zero-⊕, ⊕-self, ⊕-cancel, ⊕-equal, ⊕-group, ⊙-zero, zero-⊙, ⊙-one, one-⊙, ⊙-left-comm, ⊙-ring}
+use Rattle.field.specs.Field.{F, 𝟎, _⊕_, _⊙_, zero-⊕, ⊕-self, ⊕-cancel, ⊕-equal, ⊕-group, ⊙-zero, zero-⊙, ⊙-one, one-⊙, ⊙-left-comm, ⊙-ring}
 use Rattle.field.specs.Field.{pow, pow-zero, pow-suc, inv, mul-inv}
 use Rattle.series.specs.Sum.{sum, sum-head, sum-cong, sum-zero, sum-⊕, ⊙-sum, sum-swap, sum-one}
 use Rattle.series.specs.Series.{Series, O, O-at}

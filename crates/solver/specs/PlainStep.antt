@@ -1,7 +1,7 @@
 -- An iteration of the plain form, from what its lines compute.
 use Prim.Native.Nat.{ℕ}
-use mathlib.Core.Path.{_≡_, refl, sym, ap, _∙_}
-use mathlib.Core.Bool.{true, false, cond}
+use mathlib.Core.Path.{_≡_, sym, _∙_}
+use mathlib.Core.Bool.{true, false}
 use lib.IntN.{ℤ}
 use Rattle.field.specs.Field.{F}
 use Rattle.series.specs.Series.{Series, K, Z, _⊞_, _⊠_}

@@ -1,7 +1,6 @@
 -- An iteration of the scaled form, from what its lines compute.
 --
--- Proved: an array is its own cut; cut 49 passes through what an iteration makes of its products; a swap, and a hold with d ≠ 0 or d = 0, are the
--- definition's.
+-- Proved: cut 49 passes through what an iteration makes of its products; a swap, and a hold with d ≠ 0 or d = 0, are the definition's.
 use Prim.Native.Nat.{ℕ, _+_}
 use mathlib.Core.Path.{_≡_, refl, sym, ap, _∙_}
 use mathlib.Core.Bool.{Bool, true, false, cond}

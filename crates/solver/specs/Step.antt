@@ -1,15 +1,12 @@
 -- What the three forms' iterations share: the length after a swap or a hold, and polynomials of 49 coefficients.
 --
 -- Proved: the test for a swap says that twice the length is at most r; how k goes on; an update has 49 coefficients.
-use Prim.Native.Nat.{ℕ, suc, _+_, _-_, _≤_}
-use mathlib.Core.Path.{_≡_, refl, sym, ap, ap₂, _∙_, fun-ext}
-use mathlib.Core.Bool.{Bool, true, false, not, cond, _&&_, true≢false}
-use native.Mathlib.Decide.{decLt}
+use Prim.Native.Nat.{ℕ, _+_, _-_, _≤_}
+use mathlib.Core.Path.{_≡_, sym, ap₂, _∙_}
+use mathlib.Core.Bool.{Bool, true, false, not, _&&_, true≢false}
 use native.Mathlib.Numerals.{add-one}
-use native.Mathlib.Omega.{arith}
 use borrow.Author.Tests.{leb-true}
 use lib.Dec.{leb}
-use lib.IntN.{ℤ}
 use Rattle.field.specs.Field.{F, isZero}
 use Rattle.series.specs.Series.{Series, K, Z, _⊞_, _⊠_}
 use Rattle.series.specs.Shift.{cut, cut-⊞, cut-K-⊠}

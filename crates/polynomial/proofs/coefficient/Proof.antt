@@ -2,7 +2,7 @@
 use mathlib.Core.Path.{sym, _∙_}
 use native.Mathlib.Omega.{arith}
 use Rattle.field.specs.Field.{val-zero}
-use Rattle.series.specs.Array.{read-at, below-values}
+use Rattle.series.specs.Array.{read-at}
 use Rattle.polynomial.specs.Polynomial.{below-row, row-values}
 use borrow.Author.Needs.{needs}
 use Rattle.polynomial.proofs.coefficient.Statement.{statement}

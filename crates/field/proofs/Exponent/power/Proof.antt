@@ -1,9 +1,9 @@
 -- The table of powers is the one defined, entry by entry: antt computes it here.
-use mathlib.Core.Path.{_≡_, ap, _∙_}
+use mathlib.Core.Path.{ap, _∙_}
 use mathlib.Core.Bool.{xor}
 use Prim.Native.Nat.{_%_}
 use native.Mathlib.Omega.{arith}
-use Rattle.field.specs.Definition.{𝟎, 𝟏, α, _⊕_, _⊙_, times, plus, scale, z⁸, horner, modulo, coefficients, bit, byte, powers, val, of, pow}
+use Rattle.field.specs.Definition.{𝟎, 𝟏, α, _⊕_, _⊙_, times, plus, scale, z⁸, horner, modulo, coefficients, bit, byte, powers, val, of}
 use Rattle.field.specs.Byte.{of-byte}
 use Rattle.field.specs.Log.{powerTable, powerTable-at}
 use Rattle.field.specs.Inverse.{power-mod}

@@ -1,5 +1,5 @@
 -- The inverse of α^a is α^(255 - a).
-use mathlib.Core.Path.{_≡_, ap, sym, _∙_}
+use mathlib.Core.Path.{ap, sym, _∙_}
 use Prim.Native.Nat.{ℕ, _-_}
 use native.Mathlib.Omega.{arith}
 use Rattle.field.specs.Definition.{α, pow, inv, val}

@@ -1,5 +1,5 @@
 -- Only the byte 0 is the value zero.
-use mathlib.Core.Path.{_≡_, ap, sym}
+use mathlib.Core.Path.{ap, sym}
 use Prim.Native.Nat.{ℕ}
 use lib.Dec.{eqb}
 use Rattle.field.specs.Definition.{isZero, val}

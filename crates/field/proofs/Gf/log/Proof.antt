@@ -1,7 +1,7 @@
 -- The table of logarithms is the one defined, entry by entry: antt computes it here.
 use mathlib.Core.Bool.{xor}
 use native.Mathlib.Omega.{arith}
-use Rattle.field.specs.Definition.{𝟎, 𝟏, α, _⊕_, _⊙_, times, plus, scale, z⁸, horner, modulo, coefficients, bit, byte, powers, place, logOf, val, log, of}
+use Rattle.field.specs.Definition.{𝟎, 𝟏, α, _⊕_, _⊙_, times, plus, scale, z⁸, horner, modulo, coefficients, bit, byte, powers, place, logOf, val}
 use Rattle.field.specs.Log.{tabulate, logTable, logTable-at, logTable-lt}
 use borrow.Author.Needs.{needs}
 use Rattle.field.proofs.Gf.log.Statement.{statement}

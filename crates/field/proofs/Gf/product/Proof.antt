@@ -1,5 +1,5 @@
 -- A product with zero is zero; that of α^a and α^b is α^(a + b).
-use mathlib.Core.Path.{_≡_, ap, ap₂, sym, _∙_}
+use mathlib.Core.Path.{ap, ap₂, sym, _∙_}
 use Prim.Native.Nat.{ℕ, _+_}
 use native.Mathlib.Omega.{arith}
 use Rattle.field.specs.Definition.{F, α, _⊙_, pow, val}

@@ -1,6 +1,6 @@
 -- The syndromes that are lent are at most 48.
 use Prim.Native.Nat.{_+_, min}
-use mathlib.Core.Path.{sym, ap, ap₂, _∙_}
+use mathlib.Core.Path.{sym, ap, _∙_}
 use native.Mathlib.Nat.{min-comm}
 use native.Mathlib.Omega.{arith}
 use lib.ListN.{length, getD}

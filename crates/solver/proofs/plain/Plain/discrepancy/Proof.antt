@@ -1,6 +1,5 @@
 -- Coefficient r of Λ·S.
-use mathlib.Core.Path.{_≡_, sym, _∙_}
-use Rattle.iteration.specs.Plain.{δ}
+use mathlib.Core.Path.{sym, _∙_}
 use Rattle.solver.specs.PlainView.{plain}
 use Rattle.iteration.specs.Ahead.{δ-convolution}
 use borrow.Author.Needs.{needs}

@@ -2,7 +2,6 @@
 use mathlib.Core.Path.{_≡_, sym, _∙_}
 use mathlib.Core.Bool.{true}
 use native.Mathlib.Omega.{arith}
-use Rattle.field.specs.Field.{val}
 use Rattle.iteration.specs.Shared.{swaps}
 use Rattle.iteration.specs.Length.{k-of}
 use Rattle.polynomial.specs.Polynomial.{below-poly}

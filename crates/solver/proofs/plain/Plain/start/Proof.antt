@@ -1,6 +1,6 @@
 -- Two constants one, and k = 0 - 2·0.
-use mathlib.Core.Path.{_≡_, _∙_}
-use Rattle.field.specs.Field.{𝟏, val-one}
+use mathlib.Core.Path.{_∙_}
+use Rattle.field.specs.Field.{val-one}
 use Rattle.series.specs.Series.{K}
 use Rattle.iteration.specs.Length.{k-of-start}
 use Rattle.solver.specs.PlainView.{plain}
