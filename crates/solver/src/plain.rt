@@ -32,8 +32,8 @@ impl Plain {
     pub fn discrepancy(self, r: u8, s: [Gf; 48]) -> Gf
         ensures { λ d. ⌜ val d ≡ δ r (row s) (plain r self) ⌝ }
     {
-        let f = self.locator;
-        polynomial::convolve(f, s, r as usize)
+        let locator = self.locator;
+        polynomial::convolve(locator, s, r as usize)
     }
 
     // Iteration r. Polynomials have 49 coefficients: what would be above is lost.

@@ -1,5 +1,7 @@
 // What the three forms share: the swap decision, and k from the length.
+ghost use Prim.Native.Nat.{_+_, _<_, _^_};
 ghost use mathlib.Core.Path.{_≡_};
+ghost use lib.IntN.{subℕ};
 ghost use Rattle.field.specs.Field.{val};
 ghost use Rattle.iteration.specs.Shared.{swaps as Swaps};
 ghost use Rattle.iteration.specs.Length.{k-of};
@@ -15,10 +17,16 @@ pub fn swaps(d: Gf, length: u16, r: u8) -> bool
     2 * (length as u32) <= r as u32
 }
 
+fn minus(a: u32, b: u32) -> i32
+    requires { ⌜ a + b < 2 ^ 31 ⌝ }
+    ensures { λ d. ⌜ d ≡ subℕ a b ⌝ }
+{
+    a as i32 - b as i32
+}
+
 // k after r iterations: r - 2·length.
 pub fn k(length: u16, r: u8) -> i32
     ensures { λ k. ⌜ k ≡ k-of r length ⌝ }
 {
-    let twice = 2 * (length as u32);
-    r as i32 - twice as i32
+    minus(r as u32, 2 * (length as u32))
 }

@@ -1,30 +1,21 @@
--- A difference of two small numbers, r and twice the length.
+-- The definition, with twice the length.
 use mathlib.Core.Path.{_∙_}
-use Prim.Native.Nat.{_*_}
 use native.Mathlib.Omega.{arith}
 use mir.Syntax.{w32}
-use mir.Facts.{toZ-pos, toZ-ofZ}
-use Rattle.solver.specs.Signed.{difference-fits, difference-k}
+use mir.Facts.{toZ-ofZ}
+use Rattle.solver.specs.Signed.{k-is}
 use borrow.Author.Needs.{needs}
 use Rattle.solver.proofs.shared.k.Statement.{statement}
 use Rattle.solver.proofs.shared.k.Tie as tie
 
-mul-twice : tie.Need-mul-twice
-mul-twice c = search needs
+mul-minus : tie.Need-mul-minus
+mul-minus c = search needs
 
-cast-result : tie.Need-cast-result
-cast-result c = search needs
-
-cast-result-2 : tie.Need-cast-result-2
-cast-result-2 c = search needs
-
-sub-result : tie.Need-sub-result
-sub-result c = rw (toZ-pos w32 {n = c .args .r} (omega arith), toZ-pos w32 {n = 2 * c .args .length} (omega arith)) (difference-fits (c .args .r) (2 * c .args .length) (omega arith))
+minus-requires : tie.Need-minus-requires
+minus-requires c κs = search needs
 
 returns : tie.Need-returns
-returns c =
-    rw (toZ-pos w32 {n = c .args .r} (omega arith), toZ-pos w32 {n = 2 * c .args .length} (omega arith))
-    (toZ-ofZ (difference-fits (c .args .r) (2 * c .args .length) (omega arith)) ∙ difference-k (c .args .r) (c .args .length) (2 * c .args .length) (omega arith))
+returns c = toZ-ofZ {w = w32} (record { sfits = c .minus .ok }) ∙ c .minus .ensures ∙ k-is (c .before .args .r) (c .before .args .length) _ (omega arith)
 
 pub k-spec : {M : Type 1} → statement M
-k-spec = tie.close (tie.spec mul-twice cast-result cast-result-2 sub-result returns)
+k-spec = tie.close (tie.spec mul-minus minus-requires returns)
