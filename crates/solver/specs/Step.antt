@@ -1,4 +1,4 @@
--- What the three forms' iterations share: the length after a swap or a hold, and polynomials of 49 coefficients.
+-- What the three forms' iterations share: k after a swap and a hold, and polynomials of 49 coefficients.
 --
 -- Proved: the test for a swap says that twice the length is at most r; how k goes on; an update has 49 coefficients.
 use Prim.Native.Nat.{ℕ, _+_, _-_, _≤_}
@@ -21,8 +21,8 @@ swap-room d r L e = leb-true (L + L) r (right (isZero d) (leb (L + L) r) (sym (s
     right true b e = absurd (true≢false (sym e))
     right false b e = e
 
-pub swap-k : (d : F) (r L : ℕ) → swaps d (k-of r L) ≡ true → k-of (r + 1) (r + 1 - L) ≡ k-swap (k-of r L)
-swap-k d r L e = rw (add-one r) (sym (k-of-swap r L (swap-room d r L e)))
+pub swap-k : (r L : ℕ) → L + L ≤ r → k-of (r + 1) (r + 1 - L) ≡ k-swap (k-of r L)
+swap-k r L h = rw (add-one r) (sym (k-of-swap r L h))
 
 pub hold-k : (r L : ℕ) → k-of (r + 1) L ≡ k-hold (k-of r L)
 hold-k r L = rw (add-one r) (sym (k-of-hold r L))

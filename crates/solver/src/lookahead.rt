@@ -190,7 +190,7 @@ impl Lookahead {
         let theta = add_multiple(over, s1, f);
         let theta_s = two_products(s3, delta[1], self.g1, f[0]);
         let d = delta[0];
-        let length = r as u16 + 1 - self.length;
+        let length = shared::next_length(self.length, r);
         self.step(r, s, f, d, length, theta, theta_s)
     }
 

@@ -52,7 +52,7 @@ impl Plain {
                 locator: next,
                 auxiliary: f,
                 gamma: d,
-                length: r as u16 + 1 - l,
+                length: shared::next_length(l, r),
             };
         }
         Plain {

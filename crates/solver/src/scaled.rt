@@ -213,7 +213,8 @@ impl Scaled {
             let f = p.locator;
             let t = p.delta;
             let gamma = self.rho.product(d);
-            return step(n, s, p, f, t, gamma, n - l);
+            let length = shared::next_length(l, r);
+            return step(n, s, p, f, t, gamma, length);
         }
         if d.is_zero() {
             let zb = scale_shifted(self.ratio, b);

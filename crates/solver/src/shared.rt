@@ -1,9 +1,9 @@
-// What the three forms share: the swap decision, and k from the length.
-ghost use Prim.Native.Nat.{_+_, _<_, _^_};
+// What the three forms share: the swap decision, the next length, and k from the length.
+ghost use Prim.Native.Nat.{_+_, _≤_, _<_, _^_};
 ghost use mathlib.Core.Path.{_≡_};
 ghost use lib.IntN.{subℕ};
 ghost use Rattle.field.specs.Field.{val};
-ghost use Rattle.iteration.specs.Shared.{swaps as Swaps};
+ghost use Rattle.iteration.specs.Shared.{swaps as Swaps, k-swap};
 ghost use Rattle.iteration.specs.Length.{k-of};
 use field::Gf;
 
@@ -15,6 +15,14 @@ pub fn swaps(d: Gf, length: u16, r: u8) -> bool
         return false;
     }
     2 * (length as u32) <= r as u32
+}
+
+// The length after a swap at iteration r.
+pub fn next_length(length: u16, r: u8) -> u16
+    requires { ⌜ length + length ≤ r ⌝ }
+    ensures { λ l. ⌜ k-of (r + 1) l ≡ k-swap (k-of r length) ⌝ }
+{
+    r as u16 + 1 - length
 }
 
 fn minus(a: u32, b: u32) -> i32

@@ -6,7 +6,7 @@ use Rattle.series.specs.Series.{K, _⊞_, _⊠_}
 use Rattle.series.specs.Degree.{below-cut-eq}
 use Rattle.polynomial.specs.Polynomial.{row, poly-at, below-poly}
 use Rattle.solver.specs.LookaheadView.{lookahead, clip-lookahead}
-use Rattle.solver.specs.Step.{swap-room, swap-k}
+use Rattle.solver.specs.Step.{swap-room}
 use Rattle.solver.specs.LookaheadStep.{stepped, cut-swap-Θ}
 use borrow.Author.Needs.{needs}
 use Rattle.solver.proofs.lookahead.Lookahead.swap.Statement.{statement}
@@ -42,14 +42,11 @@ two-products-requires c κs = search needs
 array-copy-out-d : tie.Need-array-copy-out-d
 array-copy-out-d c = search needs
 
-add-length : tie.Need-add-length
-add-length c = search needs
-
-sub-length : tie.Need-sub-length
+next-length-requires : tie.Need-next-length-requires
 unfolding lookahead
-sub-length c =
-    let first = c .before .before .before .before .before .before .before .before .before .before .before in
-    omega (arith, swap-room _ (first .args .r) (first .args .self .length) (first .pre))
+next-length-requires c κs =
+    let first = c .before .before .before .before .before .before .before .before .before .before in
+    swap-room _ (first .args .r) (first .args .self .length) (first .pre)
 
 step-requires : tie.Need-step-requires
 step-requires c κs = search needs
@@ -69,7 +66,7 @@ returns c =
     let Δ0 = sym (poly-at (given .self .delta) 0 (omega arith)) in
     let Δ1 = sym (poly-at (given .self .delta) 1 (omega arith)) in
     let B = sym (below-cut-eq 49 (m .Λ) (below-poly _)) in
-    let k = swap-k _ (given .r) (given .self .length) (first .pre) in
+    let k = c .before .next-length .ensures in
     let Θ = x .add-multiple .ensures ∙ (λ j. over j ⊞ K (s1 j) ⊠ m .Λ) ∙ cut-swap-Θ m (below-poly _) (below-poly _) _ in
     let θS = c .before .before .before .two-products .ensures ∙ (λ j. s3 j ⊙ Δ1 j ⊕ m .g1 ⊙ Λ0 j) in
     c .step .ensures ∙ λ i. stepped (given .r) (row (given .s)) m (B i) (Δ0 i) (k i) (Θ i) (θS i)
@@ -88,7 +85,6 @@ swap-spec =
     array-copy-out-two-products-2
     two-products-requires
     array-copy-out-d
-    add-length
-    sub-length
+    next-length-requires
     step-requires
     returns)

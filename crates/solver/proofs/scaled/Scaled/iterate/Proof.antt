@@ -2,7 +2,7 @@
 use mathlib.Core.Path.{refl, sym, _∙_}
 use native.Mathlib.Omega.{arith}
 use Rattle.polynomial.specs.Polynomial.{poly-cut, row, poly-at}
-use Rattle.solver.specs.Step.{swap-room, swap-k, hold-k}
+use Rattle.solver.specs.Step.{swap-room, hold-k}
 use Rattle.solver.specs.ScaledView.{scaled}
 use Rattle.solver.specs.ScaledStep.{scaled-swap, scaled-hold, scaled-pass}
 use borrow.Author.Needs.{needs}
@@ -24,11 +24,11 @@ swaps-requires c κs = search needs
 product-requires : tie.Need-product-requires
 product-requires c κs = search needs
 
-sub-step : tie.Need-sub-step
-sub-step c =
+next-length-requires : tie.Need-next-length-requires
+next-length-requires c κs =
     let x = c .before .before .before in
     let given = x .before .before .before .before .before .before .before .args in
-    omega (arith, swap-room _ (given .r) (given .self .length) (sym (x .before .swaps .ensures) ∙ x .if1 .taken))
+    swap-room _ (given .r) (given .self .length) (sym (x .before .swaps .ensures) ∙ x .if1 .taken)
 
 step-requires : tie.Need-step-requires
 step-requires c κs = search needs
@@ -36,12 +36,12 @@ step-requires c κs = search needs
 returns : tie.Need-returns
 unfolding scaled
 returns c =
-    let x = c .before .before .before .before .before in
+    let x = c .before .before .before .before .before .before in
     let given = x .before .before .before .before .before .before .args in
-    let swap = sym (x .swaps .ensures) ∙ c .before .before .before .before .if1 .taken in
+    let swap = sym (x .swaps .ensures) ∙ c .before .before .before .before .before .if1 .taken in
     c .step .ensures
     ∙ scaled-swap (given .r) (row (given .s)) (scaled (given .r) (given .self)) _ _ _ _ _ _ _ (poly-at _ 0 (omega arith))
-    (x .before .products .ensures (given .r)) swap (c .before .product .ensures) (swap-k _ _ _ swap)
+    (x .before .products .ensures (given .r)) swap (c .before .before .product .ensures) (c .before .next-length .ensures)
 
 is-zero-requires : tie.Need-is-zero-requires
 is-zero-requires c κs = search needs
@@ -89,7 +89,7 @@ iterate-spec =
     products-requires
     swaps-requires
     product-requires
-    sub-step
+    next-length-requires
     step-requires
     returns
     is-zero-requires
