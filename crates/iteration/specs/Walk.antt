@@ -4,7 +4,8 @@
 --   Keeps f want       form f keeps it: at the start, through an entry, through an iteration; and it swaps with the plain form
 --   wanted J known r   where a run in such a form is to be, J being the joined syndromes and `known` those so far
 --
--- Proved: how many iterations a run has had (run-r); where every run is, as one equation (run-is); how far it has come (iterations-le), and what its end is (end-iterations, end-so-far).
+-- Proved: how many iterations a run has had (run-r); where every run is, as one equation (run-is); how far it has come (iterations-le), and what
+-- its end is (end-iterations, end-so-far).
 use Prim.Native.Nat.{ℕ, zero, suc, _+_, _≤_}
 use mathlib.Core.Path.{_≡_, refl, sym, ap, _∙_}
 use mathlib.Core.Logic.{_≢_}

@@ -86,7 +86,10 @@ module _ (f : Form) (s : List F) (ns : List ℕ) where
   step : (n : ℕ) (p : At f) (known i : ℕ) (h : Here f s ns n p known i) (e : Event)
       → (length (h .done ++ (e ∷ [])) ≡ n + 1) × (after f (h .done ++ (e ∷ [])) (outset f) ≡ happen f e p)
   unfolding after
-  step n p known i h e = (length-append (h .done) (e ∷ []) ∙ ap (λ (k : ℕ). k + 1) (h .count), after-append f (h .done) (e ∷ []) (outset f) ∙ ap (happen f e) (h .at))
+  step n p known i h e = (
+    length-append (h .done) (e ∷ []) ∙ ap (λ (k : ℕ). k + 1) (h .count),
+    after-append f (h .done) (e ∷ []) (outset f) ∙ ap (happen f e) (h .at),
+  )
 
   pub here-iterate : (n : ℕ) (p : At f) (known i : ℕ) (h : Here f s ns n p known i) → p .r < known → Here f s ns (n + 1) (happen f iteration p) known i
   here-iterate n p known i h l =
@@ -117,7 +120,8 @@ module _ (f : Form) (s : List F) (ns : List ℕ) where
       let now : known - p .r ≡ 0 = omega arith in
       let opened : events (cut-rounds (drop known s) (drop i ns)) ≡ entering round ∷ rest =
       ap (λ (l : List ℕ). events (cut-rounds (drop known s) l)) (drop-cons ns i 0 l)
-      ∙ ap₂ (λ (m : ℕ) (t : List F). entering round ∷ (replicate m iteration ++ events (cut-rounds t (drop (suc i) ns)))) long (drop-drop k known s ∙ drop-min (known + k) s)
+      ∙ ap₂ (λ (m : ℕ) (t : List F). entering round ∷ (replicate m iteration ++ events (cut-rounds t (drop (suc i) ns)))) long
+      (drop-drop k known s ∙ drop-min (known + k) s)
       ∙ ap (λ (m : ℕ). entering round ∷ (replicate (next - p .r) iteration ++ events (cut-rounds (drop next s) (drop m ns)))) (sym (add-one i)) in
       let more = step n p known i h (entering round) in
       record {
@@ -135,7 +139,8 @@ module _ (f : Form) (s : List F) (ns : List ℕ) where
       }
 
   -- nothing is left
-  pub here-end : (n : ℕ) (p : At f) (known i : ℕ) (h : Here f s ns n p known i) → p .r ≡ known → length ns ≤ i → (k : ℕ) → n ≤ k → run f (cut-rounds s ns) k ≡ p
+  pub here-end : (n : ℕ) (p : At f) (known i : ℕ) (h : Here f s ns n p known i) → p .r ≡ known → length ns ≤ i
+      → (k : ℕ) → n ≤ k → run f (cut-rounds s ns) k ≡ p
   unfolding run cut-rounds events
   here-end n p known i h e l k q =
       let none : events (cut-rounds s ns) ≡ h .done =

@@ -196,4 +196,9 @@ claimed Scaled rounds k = agreement rounds k .in-scaled
 
 pub ran : (f : Form) (rounds : List (List F)) (k : ℕ) (p : Progress) → p .solver .form ≡ f
     → at-of f (Run.run (form-of f) rounds k .known) p ≡ Run.run (form-of f) rounds k → Ran f rounds k p
-ran f rounds k p e is = record { form = e; iterations = ap (λ (q : Run.At (form-of f)). q .r) is ∙ run-r (form-of f) rounds k; is = is; claim = subst (Claimed f rounds k) (sym is) (claimed f rounds k) }
+ran f rounds k p e is = record {
+  form = e;
+  iterations = ap (λ (q : Run.At (form-of f)). q .r) is ∙ run-r (form-of f) rounds k;
+  is = is;
+  claim = subst (Claimed f rounds k) (sym is) (claimed f rounds k);
+}

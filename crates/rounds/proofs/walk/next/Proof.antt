@@ -53,7 +53,8 @@ returns-2 c form n t =
     let start = at .before .before .before .before .before .before .before in
     let given = start .args in
     let more = start .pre .more (at .if1 .left) in
-    turn-enter form _ (given .lengths .now) (few (given .syndromes .now)) n (given .w) t (at .if1 .left) more _ _ _ (c .before .before .reach .ensures) (c .before .first .ensures) (c .enter .ensures)
+    turn-enter form _ (given .lengths .now) (few (given .syndromes .now)) n (given .w) t (at .if1 .left) more _ _ _
+    (c .before .before .reach .ensures) (c .before .first .ensures) (c .enter .ensures)
 
 pub next-spec : {M : Type 1} → statement M
 next-spec =

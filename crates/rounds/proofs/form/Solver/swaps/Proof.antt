@@ -43,19 +43,22 @@ returns : tie.Need-returns
 unfolding plain
 returns c =
     let given = c .before .before .before .before .before .before .before .args in
-    for-form _ _ _ (c .before .before .enum-told .given .1) (c .swaps .ensures ∙ ap (λ d. swaps d (k-of (given .r) (given .self .plain .length))) (c .before .discrepancy .ensures))
+    for-form _ _ _ (c .before .before .enum-told .given .1)
+    (c .swaps .ensures ∙ ap (λ d. swaps d (k-of (given .r) (given .self .plain .length))) (c .before .discrepancy .ensures))
 
 returns-2 : tie.Need-returns-2
 unfolding lookahead
 returns-2 c =
     let given = c .before .before .before .before .before .before .before .before .args in
-    for-form _ _ _ (c .before .before .before .enum-told2 .given .1) (c .swaps2 .ensures ∙ ap (λ d. swaps d (k-of (given .r) (given .self .lookahead .length))) (sym (poly-at _ 0 (omega arith))))
+    for-form _ _ _ (c .before .before .before .enum-told2 .given .1)
+    (c .swaps2 .ensures ∙ ap (λ d. swaps d (k-of (given .r) (given .self .lookahead .length))) (sym (poly-at _ 0 (omega arith))))
 
 returns-3 : tie.Need-returns-3
 unfolding scaled
 returns-3 c =
     let given = c .before .before .before .before .before .before .before .before .args in
-    for-form _ _ _ (c .before .before .before .enum-told3 .given .1) (c .swaps3 .ensures ∙ ap (λ d. swaps d (k-of (given .r) (given .self .scaled .length))) (sym (poly-at _ 0 (omega arith))))
+    for-form _ _ _ (c .before .before .before .enum-told3 .given .1)
+    (c .swaps3 .ensures ∙ ap (λ d. swaps d (k-of (given .r) (given .self .scaled .length))) (sym (poly-at _ 0 (omega arith))))
 
 pub swaps-spec : {M : Type 1} → statement M
 swaps-spec =
