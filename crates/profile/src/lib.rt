@@ -1,0 +1,242 @@
+// Profiles: what the seven bytes mean, the questions that they are put, and the sizes that follow.
+ghost use Prim.Native.Nat.{_-_, _*_, _<_, _^_};
+ghost use mathlib.Core.Path.{_≡_};
+ghost use mathlib.Core.Bool.{cond};
+ghost use lib.Dec.{leb, eqb};
+ghost use Rattle.profile.specs.Definition.{capability as Capability, last as Last, good-subwords, good-nested, good-capabilities};
+ghost use Rattle.profile.specs.Definition.{good-length, judged, profile-of, number-of, block-size as BlockSize, capability-sum as Sum, data-size as DataSize};
+ghost use Rattle.profile.specs.Definition.{checks as Checks};
+
+// Document 01's m strips, v nested sums, n bytes a strip and strengths t0 to t3.
+pub struct Profile {
+    pub subwords: u8,
+    pub nested: u8,
+    pub length: u8,
+    pub t0: u8,
+    pub t1: u8,
+    pub t2: u8,
+    pub t3: u8,
+}
+
+// The questions that said no.
+pub enum Refusal {
+    ProfileSize,
+    Subwords,
+    Nested,
+    Capabilities,
+    Length,
+    InputSize,
+    OutputSize,
+    Subword,
+}
+
+pub enum Parsed {
+    Accepted(Profile),
+    Refused(Refusal),
+}
+
+// Document 01's number of a refusal.
+pub fn number(r: Refusal) -> u8
+    ensures { λ n. ⌜ n ≡ number-of r ⌝ }
+{
+    match r {
+        Refusal::ProfileSize => 1,
+        Refusal::Subwords => 2,
+        Refusal::Nested => 3,
+        Refusal::Capabilities => 4,
+        Refusal::Length => 5,
+        Refusal::InputSize => 6,
+        Refusal::OutputSize => 7,
+        Refusal::Subword => 10,
+    }
+}
+
+impl Profile {
+    // t_r, 0 past t_3.
+    pub fn capability(self, r: u8) -> u8
+        ensures { λ t. ⌜ t ≡ Capability self r ⌝ }
+    {
+        if r == 0 {
+            return self.t0;
+        }
+        if r == 1 {
+            return self.t1;
+        }
+        if r == 2 {
+            return self.t2;
+        }
+        if r == 3 {
+            return self.t3;
+        }
+        0
+    }
+
+    // t_v
+    fn last(self) -> u8
+        ensures { λ t. ⌜ t ≡ Last self ⌝ }
+    {
+        self.capability(self.nested)
+    }
+
+    // The check symbols of subword i.
+    pub fn checks(self, i: u8) -> u16
+        ensures { λ n. ⌜ n ≡ Checks self i ⌝ }
+    {
+        if i < self.nested {
+            let t = self.capability(self.nested - i);
+            return 2 * (t as u16);
+        }
+        2 * (self.t0 as u16)
+    }
+
+    pub fn block_size(self) -> usize
+        ensures { λ n. ⌜ n ≡ BlockSize self ⌝ }
+    {
+        product(self.subwords, self.length)
+    }
+
+    // t_1 + .. + t_v
+    fn sum(self) -> usize
+        ensures { λ n. ⌜ n ≡ Sum self (self .nested) ⌝ }
+        ensures small { λ n. ⌜ n < 2 ^ 16 ⌝ }
+    {
+        let mut n: usize = 0;
+        let mut r: u8 = 0;
+        while r < self.nested {
+            r = r + 1;
+            n = n + self.capability(r) as usize;
+        }
+        n
+    }
+
+    // The subwords from v on: m - v.
+    fn others(self) -> u8
+        ensures { λ n. ⌜ n ≡ self .subwords - self .nested ⌝ }
+    {
+        if self.subwords < self.nested {
+            return 0;
+        }
+        self.subwords - self.nested
+    }
+
+    // The data symbols of a block.
+    pub fn data_size(self) -> usize
+        ensures { λ n. ⌜ n ≡ DataSize self ⌝ }
+    {
+        let all = self.block_size();
+        let first = self.sum();
+        let rest = product(self.others(), self.t0);
+        minus(minus(all, 2 * first), 2 * rest)
+    }
+}
+
+fn product(a: u8, b: u8) -> usize
+    ensures { λ n. ⌜ n ≡ a * b ⌝ }
+    ensures small { λ n. ⌜ n < 2 ^ 16 ⌝ }
+{
+    a as usize * b as usize
+}
+
+// a - b, or 0.
+fn minus(a: usize, b: usize) -> usize
+    ensures { λ d. ⌜ d ≡ a - b ⌝ }
+{
+    if a < b {
+        return 0;
+    }
+    a - b
+}
+
+// m from 1 to 8.
+fn subwords(p: Profile) -> bool
+    ensures { λ b. ⌜ b ≡ good-subwords p ⌝ }
+{
+    if p.subwords < 1 {
+        return false;
+    }
+    p.subwords <= 8
+}
+
+// v from 0 to 3 and below m.
+fn nested(p: Profile) -> bool
+    ensures { λ b. ⌜ b ≡ good-nested p ⌝ }
+{
+    if 3 < p.nested {
+        return false;
+    }
+    p.nested < p.subwords
+}
+
+// t_r as it must be after t_(r-1), which rises says, or 0 if r is above v.
+fn step(r: u8, v: u8, rises: bool, t: u8) -> bool
+    ensures { λ b. ⌜ b ≡ cond (leb r v) rises (eqb t 0) ⌝ }
+{
+    if r <= v {
+        return rises;
+    }
+    t == 0
+}
+
+// t0 at least 1, t0 < t1 ≤ .. ≤ tv ≤ 24, and 0 after tv.
+fn capabilities(p: Profile) -> bool
+    ensures { λ b. ⌜ b ≡ good-capabilities p ⌝ }
+{
+    let v = p.nested;
+    if p.t0 < 1 {
+        return false;
+    }
+    if !step(1, v, p.t0 < p.t1, p.t1) {
+        return false;
+    }
+    if !step(2, v, p.t1 <= p.t2, p.t2) {
+        return false;
+    }
+    if !step(3, v, p.t2 <= p.t3, p.t3) {
+        return false;
+    }
+    p.last() <= 24
+}
+
+// n above 2 × tv.
+fn length(p: Profile) -> bool
+    ensures { λ b. ⌜ b ≡ good-length p ⌝ }
+{
+    2 * (p.last() as u16) < p.length as u16
+}
+
+// The questions after the first, one by one.
+fn judge(p: Profile) -> Parsed
+    ensures { λ a. ⌜ a ≡ judged p ⌝ }
+{
+    if !subwords(p) {
+        return Parsed::Refused(Refusal::Subwords);
+    }
+    if !nested(p) {
+        return Parsed::Refused(Refusal::Nested);
+    }
+    if !capabilities(p) {
+        return Parsed::Refused(Refusal::Capabilities);
+    }
+    if !length(p) {
+        return Parsed::Refused(Refusal::Length);
+    }
+    Parsed::Accepted(p)
+}
+
+// A profile from its bytes, or the first question that says no.
+pub fn parse(bytes: &[u8]) -> Parsed
+    ensures { λ a. ⌜ a ≡ profile-of (now (bytes .entry)) ⌝ }
+{
+    if bytes.len() != 7 {
+        return Parsed::Refused(Refusal::ProfileSize);
+    }
+    judge(Profile {
+        subwords: bytes[0],
+        nested: bytes[1],
+        length: bytes[2],
+        t0: bytes[3],
+        t1: bytes[4],
+        t2: bytes[5],
+        t3: bytes[6],
+    })
+}
