@@ -25,14 +25,14 @@ pub struct Solver {
 }
 
 impl Solver {
-    pub fn start(form: Form) -> Solver
-        ensures { λ p. ⌜ Is form 0 p (form-of form .start) ⌝ }
+    pub fn start(named: Form) -> Solver
+        ensures { λ p. ⌜ Is named 0 p (form-of named .start) ⌝ }
     {
         let p = Plain::start();
         let l = Lookahead::start();
         let c = Scaled::start();
         Solver {
-            form: form,
+            form: named,
             plain: p,
             lookahead: l,
             scaled: c,
