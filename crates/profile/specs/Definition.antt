@@ -4,9 +4,12 @@
 --   last p           t_v
 --   read b           what seven bytes mean
 --   profile-of b     the profile of the bytes b, or the first question that says no
+--   ask good q a     a further question, put to what was accepted so far
+--   answer-of a      the answer alone
 --   number-of q      document 01's number of a question
 --   checks p i       the check symbols of subword i
 --   block-size p, data-size p   the symbols and the data symbols of a block
+--   data-start p i   the data symbols before subword i
 use Prim.Native.Nat.{ℕ, zero, suc, _+_, _-_, _*_}
 use mathlib.Core.Bool.{Bool, cond, _&&_}
 use mathlib.Core.List.{List}
@@ -17,6 +20,8 @@ use Rattle.profile.specs.declared.Refusal.{Refusal}
 use Rattle.profile.specs.declared.Refusal.the-variants.{ProfileSize, Subwords, Nested, Capabilities, Length, InputSize, OutputSize, Subword}
 use Rattle.profile.specs.declared.Parsed.{Parsed}
 use Rattle.profile.specs.declared.Parsed.the-variants.{Accepted, Refused}
+use Rattle.profile.specs.declared.Answer.{Answer}
+use Rattle.profile.specs.declared.Answer.the-variants as answer
 
 abbrev pub capability : Profile → ℕ → ℕ
 capability p zero = p .t0
@@ -76,6 +81,14 @@ read b = record {
 abbrev pub profile-of : List ℕ → Parsed
 profile-of b = cond (eqb (length b) 7) (judged (read b)) (Refused ProfileSize)
 
+abbrev pub ask : (Profile → Bool) → Refusal → Parsed → Parsed
+ask good q (Accepted p) = cond (good p) (Accepted p) (Refused q)
+ask good q (Refused r) = Refused r
+
+abbrev pub answer-of : Parsed → Answer
+answer-of (Accepted p) = answer.Accepted
+answer-of (Refused q) = answer.Refused q
+
 abbrev pub number-of : Refusal → ℕ
 number-of ProfileSize = 1
 number-of Subwords = 2
@@ -85,6 +98,11 @@ number-of Length = 5
 number-of InputSize = 6
 number-of OutputSize = 7
 number-of Subword = 10
+
+-- 0 says that every question was answered by yes
+abbrev pub answer-number : Answer → ℕ
+answer-number answer.Accepted = 0
+answer-number (answer.Refused q) = number-of q
 
 -- ---- sizes
 
@@ -103,3 +121,14 @@ capability-sum p (suc r) = capability-sum p r + capability p (suc r)
 -- "The data size is m×n − 2×(t1+..+tv) − 2×(m−v)×t0."
 abbrev pub data-size : Profile → ℕ
 data-size p = block-size p - 2 * capability-sum p (p .nested) - 2 * ((p .subwords - p .nested) * p .t0)
+
+-- ---- positions
+
+-- Positions below `checks p i` of subword i hold its check symbols, those from there on its data: "They are its first places; the others are data places."
+abbrev pub room : Profile → ℕ → ℕ
+room p i = p .length - checks p i
+
+-- "Data fills them strip by strip, places rising": position `checks p i + q` of subword i holds data symbol `data-start p i + q`
+abbrev pub data-start : Profile → ℕ → ℕ
+data-start p zero = 0
+data-start p (suc i) = data-start p i + room p i

@@ -1,4 +1,5 @@
 -- Definition is what the promises speak of.
 pub mod Definition
 pub mod Laws
+pub mod Valid
 pub mod Samples

@@ -5,7 +5,7 @@ ghost use mathlib.Core.Bool.{cond};
 ghost use lib.Dec.{leb, eqb};
 ghost use Rattle.profile.specs.Definition.{capability as Capability, last as Last, good-subwords, good-nested, good-capabilities};
 ghost use Rattle.profile.specs.Definition.{good-length, judged, profile-of, number-of, block-size as BlockSize, capability-sum as Sum, data-size as DataSize};
-ghost use Rattle.profile.specs.Definition.{checks as Checks};
+ghost use Rattle.profile.specs.Definition.{checks as Checks, answer-number};
 
 // Document 01's m strips, v nested sums, n bytes a strip and strengths t0 to t3.
 pub struct Profile {
@@ -35,6 +35,12 @@ pub enum Parsed {
     Refused(Refusal),
 }
 
+// What is answered to a caller whose buffers were judged: every question was answered by yes, or the first no.
+pub enum Answer {
+    Accepted,
+    Refused(Refusal),
+}
+
 // Document 01's number of a refusal.
 pub fn number(r: Refusal) -> u8
     ensures { λ n. ⌜ n ≡ number-of r ⌝ }
@@ -48,6 +54,18 @@ pub fn number(r: Refusal) -> u8
         Refusal::InputSize => 6,
         Refusal::OutputSize => 7,
         Refusal::Subword => 10,
+    }
+}
+
+impl Answer {
+    // 0, or document 01's number of the refusal.
+    pub fn number(self) -> u8
+        ensures { λ n. ⌜ n ≡ answer-number self ⌝ }
+    {
+        match self {
+            Answer::Accepted => 0,
+            Answer::Refused(r) => number(r),
+        }
     }
 }
 

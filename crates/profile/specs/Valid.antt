@@ -1,0 +1,183 @@
+-- What an accepted profile is, as propositions, and the laws of its capabilities and sizes.
+--
+--   Valid p    the profile p passes questions 2 to 5
+--
+-- Proved: an accepted profile is the one that was judged, and valid; capabilities rise; subwords with a smaller number have more check symbols,
+-- each has at least 2 t0, at most 48 and fewer than n; the data size counts the data positions, so data symbols have numbers below it.
+use Prim.Native.Nat.{ℕ, zero, suc, _+_, _-_, _*_, _≤_, _<_}
+use mathlib.Core.Path.{_≡_, refl, _∙_, subst}
+use mathlib.Core.Bool.{Bool, true, false, cond, and-eq-true-iff}
+use mathlib.Core.List.{List}
+use native.Mathlib.Nat.{zero-mul, suc-mul, add-zero, add-suc, sub-zero}
+use native.Mathlib.Decide.{decLt}
+use native.Mathlib.Omega.{arith}
+use borrow.Author.Tests.{leb-true, ltb-true, le-leb, lt-ltb, le-ltb}
+use lib.Dec.{leb, eqb}
+use lib.ListN.{length, getD}
+use Rattle.profile.specs.declared.Profile.{Profile}
+use Rattle.profile.specs.declared.Refusal.{Refusal}
+use Rattle.profile.specs.declared.Parsed.{Parsed}
+use Rattle.profile.specs.declared.Parsed.the-variants.{Accepted, Refused}
+use Rattle.profile.specs.Definition.{good-subwords, good-nested, good-step, good-capabilities, good-length, judged, read, profile-of}
+use Rattle.profile.specs.Definition.{capability, last, checks, capability-sum, data-size, data-start}
+
+pub record Valid (p : Profile) : Type 0 where
+  pub subwords : (1 ≤ p .subwords) × (p .subwords ≤ 8)
+  pub nested : (p .nested ≤ 3) × (p .nested < p .subwords)
+  pub first : 1 ≤ p .t0
+  pub second : 0 < p .nested → p .t0 < p .t1
+  pub rising : (r : ℕ) → r < p .nested → capability p r ≤ capability p (suc r)
+  pub most : last p ≤ 24
+  pub length : (2 * last p < p .length) × (p .length ≤ 255)
+
+-- ---- from the questions
+
+-- a question that lets a profile pass says yes
+passed : (good : Bool) (a : Parsed) (r : Refusal) (q : Profile) → cond good a (Refused r) ≡ Accepted q → (good ≡ true) × (a ≡ Accepted q)
+passed true a r q e = (refl, e)
+passed false a r q e = let z : _≡_ {A = ℕ} 0 1 = cc in absurd (omega arith)
+
+chosen : (b x y : Bool) → b ≡ true → cond b x y ≡ true → x ≡ true
+chosen true x y e h = h
+chosen false x y e h = let z : _≡_ {A = ℕ} 0 1 = cc in absurd (omega arith)
+
+-- every part of question 4
+parts : (p : Profile) → good-capabilities p ≡ true
+    → (good-step p 0 ≡ true) × (good-step p 1 ≡ true) × (good-step p 2 ≡ true) × (good-step p 3 ≡ true) × (leb (last p) 24 ≡ true)
+parts p good =
+    let (s0, g1) = and-eq-true-iff (good-step p 0) _ .0 good in
+    let (s1, g2) = and-eq-true-iff (good-step p 1) _ .0 g1 in
+    let (s2, g3) = and-eq-true-iff (good-step p 2) _ .0 g2 in
+    let (s3, g4) = and-eq-true-iff (good-step p 3) _ .0 g3 in
+    (s0, s1, s2, s3, g4)
+
+module _ (p : Profile) (v : p .nested ≤ 3) (good : good-capabilities p ≡ true) where
+  step : (r : ℕ) → r ≤ 3 → good-step p r ≡ true
+  step zero h = parts p good .0
+  step (suc zero) h = parts p good .1
+  step (suc (suc zero)) h = parts p good .2
+  step (suc (suc (suc zero))) h = parts p good .3
+  step (suc (suc (suc (suc r)))) h = absurd (omega arith)
+
+  second-above : 0 < p .nested → p .t0 < p .t1
+  second-above h = ltb-true (p .t0) (p .t1) (chosen (leb 1 (p .nested)) _ _ (le-leb 1 (p .nested) h) (step 1 (omega arith)))
+
+  rises : (r : ℕ) → r < p .nested → capability p r ≤ capability p (suc r)
+  rises zero h = omega (arith, second-above h)
+  rises (suc r) h =
+      leb-true (capability p (suc r)) (capability p (suc (suc r)))
+      (chosen (leb (suc (suc r)) (p .nested)) _ _ (le-leb (suc (suc r)) (p .nested) h) (step (suc (suc r)) (omega arith)))
+
+-- every question
+yes-to : (p q : Profile) → judged p ≡ Accepted q
+    → (good-subwords p ≡ true) × (good-nested p ≡ true) × (good-capabilities p ≡ true) × (good-length p ≡ true) × (p ≡ q)
+yes-to p q e =
+    let (g1, e1) = passed (good-subwords p) _ _ q e in
+    let (g2, e2) = passed (good-nested p) _ _ q e1 in
+    let (g3, e3) = passed (good-capabilities p) _ _ q e2 in
+    let (g4, e4) = passed (good-length p) _ _ q e3 in
+    (g1, g2, g3, g4, cc)
+
+pub judged-same : (p q : Profile) → judged p ≡ Accepted q → p ≡ q
+judged-same p q e = yes-to p q e .4
+
+judged-is : (p q : Profile) → judged p ≡ Accepted q → p .length ≤ 255 → Valid p
+judged-is p q e small =
+    let (g1, g2, g3, g4, s) = yes-to p q e in
+    let (m1, m2) = and-eq-true-iff (leb 1 (p .subwords)) _ .0 g1 in
+    let (v1, v2) = and-eq-true-iff (leb (p .nested) 3) _ .0 g2 in
+    let v : p .nested ≤ 3 = leb-true (p .nested) 3 v1 in
+    record {
+      subwords = (leb-true _ _ m1, leb-true _ _ m2);
+      nested = (v, ltb-true _ _ v2);
+      first = leb-true 1 (p .t0) (step p v g3 0 (omega arith));
+      second = second-above p v g3;
+      rising = rises p v g3;
+      most = leb-true (last p) 24 (parts p g3 .4);
+      length = (ltb-true _ _ g4, small);
+    }
+
+pub judged-valid : (p q : Profile) → judged p ≡ Accepted q → p .length ≤ 255 → Valid q
+judged-valid p q e small = subst Valid (judged-same p q e) (judged-is p q e small)
+
+pub profile-read : (b : List ℕ) (q : Profile) → profile-of b ≡ Accepted q → read b ≡ q
+profile-read b q e = judged-same (read b) q (passed (eqb (length b) 7) _ _ q e .1)
+
+-- the bytes of a profile: byte 2 is the length
+pub profile-valid : (b : List ℕ) (q : Profile) → profile-of b ≡ Accepted q → getD b 2 0 ≤ 255 → Valid q
+profile-valid b q e small = judged-valid (read b) q (passed (eqb (length b) 7) _ _ q e .1) small
+
+-- ---- check symbols
+
+pub checks-high : (p : Profile) (i : ℕ) → p .nested ≤ i → checks p i ≡ 2 * p .t0
+checks-high p i h = rw (le-ltb i (p .nested) h)
+
+-- v - i is 0 from subword v on
+pub checks-is : (p : Profile) (i : ℕ) → checks p i ≡ 2 * capability p (p .nested - i)
+checks-is p i = go (decLt i (p .nested))
+  where
+    go : Dec (i < p .nested) → checks p i ≡ 2 * capability p (p .nested - i)
+    go (yes h) = rw (lt-ltb i (p .nested) h)
+    go (no h) = let e : p .nested - i ≡ 0 = omega arith in checks-high p i (omega arith) ∙ rw e
+
+module _ (p : Profile) (ok : Valid p) where
+  climb : (s r : ℕ) → r + s ≤ p .nested → capability p r ≤ capability p (r + s)
+  climb zero r h = rw add-zero (omega arith)
+  climb (suc s) r h = rw add-suc (omega (arith, climb s r (omega arith), ok .rising (r + s) (omega arith)))
+
+  pub capability-mono : (r s : ℕ) → r ≤ s → s ≤ p .nested → capability p r ≤ capability p s
+  capability-mono r s h k = let e : s ≡ r + (s - r) = omega arith in rw e (climb (s - r) r (omega arith))
+
+  pub checks-mono : (l i : ℕ) → l ≤ i → checks p i ≤ checks p l
+  checks-mono l i h = rw (checks-is p i, checks-is p l) (omega (arith, capability-mono (p .nested - i) (p .nested - l) (omega arith) (omega arith)))
+
+  pub checks-least : (i : ℕ) → 2 * p .t0 ≤ checks p i
+  checks-least i = rw (checks-is p i) (omega (arith, capability-mono 0 (p .nested - i) (omega arith) (omega arith)))
+
+  pub checks-some : (i : ℕ) → 1 ≤ checks p i
+  checks-some i = omega (arith, checks-least i, ok .first)
+
+  checks-last : (i : ℕ) → checks p i ≤ 2 * last p
+  checks-last i = rw (checks-is p i) (omega (arith, capability-mono (p .nested - i) (p .nested) (omega arith) (omega arith)))
+
+  pub checks-most : (i : ℕ) → checks p i ≤ 48
+  checks-most i = omega (arith, checks-last i, ok .most)
+
+  pub checks-room : (i : ℕ) → checks p i < p .length
+  checks-room i = omega (arith, checks-last i, ok .length .0)
+
+  -- ---- the data size
+
+  -- the data of the first i subwords, i at most v
+  start-low : (i : ℕ) → i ≤ p .nested → data-start p i + 2 * capability-sum p (p .nested) ≡ i * p .length + 2 * capability-sum p (p .nested - i)
+  start-low zero h = rw (zero-mul, sub-zero)
+  start-low (suc i) h =
+      let e : p .nested - i ≡ suc (p .nested - suc i) = omega arith in
+      let ih : data-start p i + 2 * capability-sum p (p .nested) ≡ i * p .length + 2 * capability-sum p (suc (p .nested - suc i)) =
+      start-low i (omega arith) ∙ rw e in
+      let c : checks p i ≡ 2 * capability p (suc (p .nested - suc i)) = checks-is p i ∙ rw e in
+      omega (arith, ih, c, checks-room i, suc-mul i (p .length))
+
+  -- and k subwords more
+  start-high : (k : ℕ) → data-start p (p .nested + k) + 2 * capability-sum p (p .nested) + 2 * (k * p .t0) ≡ (p .nested + k) * p .length
+  start-high zero =
+      let e : p .nested - p .nested ≡ 0 = omega arith in
+      rw add-zero (omega (arith, rw e at (start-low (p .nested) (omega arith)), zero-mul (p .t0)))
+  start-high (suc k) =
+      let c : checks p (p .nested + k) ≡ 2 * p .t0 = checks-high p (p .nested + k) (omega arith) in
+      rw add-suc (omega (arith, start-high k, c, checks-room (p .nested + k), suc-mul (p .nested + k) (p .length), suc-mul k (p .t0)))
+
+  -- "The data size" counts the data positions
+  pub data-size-is : data-start p (p .subwords) ≡ data-size p
+  data-size-is =
+      let e : p .nested + (p .subwords - p .nested) ≡ p .subwords = omega arith in
+      omega (arith, rw e at (start-high (p .subwords - p .nested)))
+
+  start-climbs : (k i : ℕ) → data-start p i ≤ data-start p (i + k)
+  start-climbs zero i = rw add-zero (omega arith)
+  start-climbs (suc k) i = rw add-suc (omega (arith, start-climbs k i))
+
+  pub data-start-most : (i : ℕ) → i ≤ p .subwords → data-start p i ≤ data-size p
+  data-start-most i h =
+      let e : i + (p .subwords - i) ≡ p .subwords = omega arith in
+      omega (arith, rw e at (start-climbs (p .subwords - i) i), data-size-is)
