@@ -10,16 +10,17 @@
 use Prim.Native.Nat.{ℕ, zero, suc, _+_, _≤_, _<_}
 use mathlib.Core.Path.{_≡_, refl, sym, ap, _∙_, fun-ext}
 use mathlib.Core.Logic.{_≢_}
-use mathlib.Core.List.{List}
+use mathlib.Core.List.{List, map}
 use native.Mathlib.Decide.{ℕ-discrete}
 use native.Mathlib.Omega.{arith}
-use lib.ListN.{length, getD, set, replicate, length-set, length-replicate, List·getD-eq-default}
+use lib.ListN.{length, getD, set, replicate, length-set, length-replicate, List·getD-eq-default, List·getD-map}
 use lib.Seq.{getD-set-same, getD-set-other}
 use Rattle.field.specs.declared.Gf.{Gf}
-use Rattle.field.specs.Field.{F, 𝟎, of, val, val-zero}
+use Rattle.field.specs.Field.{F, 𝟎, of, of-zero, val, val-zero}
 use Rattle.series.specs.Series.{Series, O-at}
 use Rattle.series.specs.Shift.{cut, cut-low, cut-high, cut-unique, cut-none, cut-zero}
 use Rattle.series.specs.Degree.{below, below-weaken, below-cut-eq}
+use Rattle.series.specs.Word.{entry, entry-is}
 
 unfoldable pub read : {A : Type 0} → (A → F) → A → List A → Series
 read m d l i = m (getD l i d)
@@ -63,6 +64,10 @@ module _ {A : Type 0} (m : A → F) (d : A) where
 
       high : (k : ℕ) → i + 1 ≤ k → read m d (set l i v) k ≡ 𝟎
       high k r = read-set-other l i k v (omega arith) ∙ ap (λ (g : Series). g k) e ∙ cut-high i f k (omega arith)
+
+-- an array of bytes and the stored word of their values
+pub bytes-entry : (l : List ℕ) → bytes l ≡ entry (map of l)
+bytes-entry l = fun-ext (λ i. sym (entry-is (map of l) i ∙ ap (getD (map of l) i) (sym of-zero) ∙ List·getD-map of l i 0 ∙ sym (read-at of 0 l i)))
 
 -- ---- filling an array of `Gf` from the front
 

@@ -17,8 +17,8 @@ use Rattle.field.specs.Field.{F, 𝟎, _⊕_, _⊙_, zero-⊕, ⊕-self, ⊕-ca
 use Rattle.field.specs.Field.{pow, pow-zero, pow-suc, inv, mul-inv}
 use Rattle.series.specs.Sum.{sum, sum-head, sum-cong, sum-zero, sum-⊕, ⊙-sum, sum-swap, sum-one}
 use Rattle.series.specs.Series.{Series, O, O-at}
-use Rattle.series.specs.Shift.{zpow, zpow-one, zpow-other}
-use Rattle.series.specs.Degree.{below}
+use Rattle.series.specs.Shift.{zpow, zpow-one, zpow-other, cut-unique}
+use Rattle.series.specs.Degree.{below, below-cut-eq}
 use Rattle.series.specs.Value.{value, value-is, value-none, value-last}
 
 abbrev pub Distinct : ℕ → (ℕ → F) → Type 0
@@ -153,6 +153,11 @@ pub interpolate-unique : (n : ℕ) (f g : Series) (x : ℕ → F) → Distinct n
     → ((j : ℕ) → j < n → value n f (x j) ≡ value n g (x j)) → (i : ℕ) → i < n → f i ≡ g i
 interpolate-unique n f g x d h i l =
     coefficient n f x d i l ∙ sum-cong n _ _ (λ w q. ap (λ t. solution n x (zpow i) w ⊙ t) (h w q)) ∙ sym (coefficient n g x d i l)
+
+pub interpolate-is : (n : ℕ) (f : Series) (x y : ℕ → F) → Distinct n x → below n f → ((j : ℕ) → j < n → value n f (x j) ≡ y j) → f ≡ interpolate n x y
+interpolate-is n f x y d b h =
+    sym (below-cut-eq n f b)
+    ∙ cut-unique n f _ (interpolate-unique n f _ x d (λ j l. h j l ∙ sym (interpolate-at n x y d j l))) (below-interpolate n x y)
 
 pub roots-zero : (n : ℕ) (f : Series) (x : ℕ → F) → Distinct n x → below n f → ((j : ℕ) → j < n → value n f (x j) ≡ 𝟎) → f ≡ O
 roots-zero n f x d b h = fun-ext (λ i. by-cases (decLe n i) (b i) (inner i) ∙ sym (O-at i))

@@ -5,6 +5,7 @@ pub mod Degree
 pub mod Value
 pub mod Interpolation
 pub mod Array
+pub mod Part
 pub mod Decide
 pub mod Word
 pub mod First

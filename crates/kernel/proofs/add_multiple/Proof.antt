@@ -1,0 +1,85 @@
+-- The first i entries have got their multiples.
+use Prim.Native.Nat.{_-_, _≤_}
+use mathlib.Core.Path.{_≡_, refl, sym, ap, _∙_}
+use native.Mathlib.Omega.{arith}
+use lib.ListN.{length, length-set}
+use Rattle.field.specs.Field.{F, _⊕_, _⊙_, of, of-zero}
+use Rattle.series.specs.Series.{Series, K, _⊞_, _⊠_}
+use Rattle.series.specs.Shift.{cut}
+use Rattle.series.specs.Degree.{below-cut-eq, below-weaken}
+use Rattle.series.specs.Array.{bytes, read-at, below-read}
+use Rattle.kernel.specs.Store.{bytes-xor, multiple-none, multiple-more}
+use Rattle.kernel.specs.Row.{factor, row-at}
+use borrow.Author.Needs.{needs}
+use Rattle.kernel.proofs.add_multiple.Statement.{statement}
+use Rattle.kernel.proofs.add_multiple.Tie as tie
+
+abbrev Inv-loop : tie.InvT-loop
+Inv-loop row from to₀ i₀ to i = (i ≤ length to₀) × (length to ≡ length to₀) × (bytes to ≡ bytes to₀ ⊞ K (factor row) ⊠ cut i (bytes from))
+
+abbrev μ-loop : tie.MeasureT-loop
+μ-loop row from to₀ i₀ to i = length to₀ - i
+
+loop-holds : tie.Need-loop-holds Inv-loop μ-loop
+loop-holds c = (search needs, refl, multiple-none _ _ _)
+
+slice-read-to : tie.Need-slice-read-to Inv-loop μ-loop
+slice-read-to c = search needs
+
+shared-slice-read-wide : tie.Need-shared-slice-read-wide Inv-loop μ-loop
+shared-slice-read-wide c = search needs
+
+wide-requires : tie.Need-wide-requires Inv-loop μ-loop
+wide-requires c κs = search needs
+
+shared-slice-read-to : tie.Need-shared-slice-read-to Inv-loop μ-loop
+shared-slice-read-to c = omega (arith, c .before .wide .ensures .1, c .before .before .before .before .before .before .before .before .before .pre .0 .long)
+
+slice-write-to : tie.Need-slice-write-to Inv-loop μ-loop
+slice-write-to c = search needs
+
+add-i : tie.Need-add-i Inv-loop μ-loop
+add-i c = search needs
+
+loop-less : tie.Need-loop-less Inv-loop μ-loop
+loop-less c = search needs
+
+loop-again : tie.Need-loop-again Inv-loop μ-loop
+loop-again c =
+    let now = c .before .before .before .before .before .loop in
+    let given = c .before .before .before .before .before .before .before .before .before in
+    let index = c .before .wide in
+    let row = given .args .row .now in
+    let product = sym (read-at of 0 row (index .result)) ∙ row-at row (index .result) (given .pre .0) (index .ensures .1) ∙ ap (λ (s : F). factor row ⊙ s) (ap of (index .ensures .0) ∙ sym (read-at of 0 _ _)) in (
+      omega arith,
+      length-set (now .to) _ _ ∙ now .inv .1,
+      multiple-more (now .to) (now .i) _ (factor row) _ _ (omega arith) (now .inv .2) (bytes-xor (now .to) (now .i) _ ∙ ap (λ (s : F). bytes (now .to) (now .i) ⊕ s) product),
+    )
+
+same-length : tie.Need-same-length Inv-loop μ-loop
+same-length c = c .before .loop .inv .1
+
+returns : tie.Need-returns Inv-loop μ-loop
+returns c =
+    let end = c .before .loop in
+    let given = c .before .before .before .before .before in
+    end .inv .2 ∙ ap (λ (f : Series). bytes (given .args .to .now) ⊞ K (factor (given .args .row .now)) ⊠ f)
+    (below-cut-eq (end .i) _ (below-weaken (length (given .args .from .now)) (end .i) _ (below-read of 0 of-zero _) (omega (arith, given .pre .1))))
+
+pub add-multiple-spec : {M : Type 1} → statement M
+add-multiple-spec =
+    tie.close
+    (tie.spec
+    Inv-loop
+    μ-loop
+    loop-holds
+    slice-read-to
+    shared-slice-read-wide
+    wide-requires
+    shared-slice-read-to
+    slice-write-to
+    add-i
+    loop-less
+    loop-again
+    same-length
+    returns)

@@ -1,0 +1,103 @@
+-- Rows of products: a list of 256 bytes in which entry x is x times the row's factor.
+--
+--   products c       the row of c as a series: x times c, for each byte x
+--   factor l         the factor of the row l: its entry 1
+--   Row l            l is a row
+--   Level c w t l    the first w entries of the row of c, w a power of two, and t is w times c
+--
+-- Proved: the first 256 products of c are a row with the factor c (row-products, factor-products). A loop that doubles w goes on by level-more:
+-- entry w + i is entry i and w times c.
+use Prim.Native.Nat.{ℕ, suc, _+_, _^_, _≤_, _<_}
+use mathlib.Core.Path.{_≡_, refl, sym, ap, ap₂, _∙_}
+use mathlib.Core.List.{List}
+use native.Mathlib.Decide.{decLe}
+use native.Mathlib.Nat.{two-pow-succ, pow-le-pow-right, one-le-pow}
+use native.Mathlib.Omega.{arith}
+use lib.ListN.{length, replicate, length-replicate}
+use Rattle.field.specs.Field.{F, α, _⊕_, _⊙_, of, of-zero, of-one, of-double, of-high, zero-⊙, one-⊙, ⊙-assoc, ⊙-comm, ⊕-⊙}
+use Rattle.series.specs.Series.{Series, _⊞_, _⊠_}
+use Rattle.series.specs.Shift.{zpow, drop, cut, drop-at, cut-low, cut-zero}
+use Rattle.series.specs.Array.{bytes, read-zeros}
+use Rattle.kernel.specs.Store.{cut-cong, cut-join}
+
+unfoldable pub products : F → Series
+products c x = of x ⊙ c
+
+unfoldable pub factor : List ℕ → F
+factor l = bytes l 1
+
+pub record Row (l : List ℕ) : Type 0 where
+  pub long : 256 ≤ length l
+  pub at : (x : ℕ) → x < 256 → bytes l x ≡ of x ⊙ factor l
+
+-- ---- a row from its products
+
+pub factor-products : (l : List ℕ) (c : F) → bytes l ≡ cut 256 (products c) → factor l ≡ c
+unfolding factor products
+factor-products l c e = ap (λ (f : Series). f 1) e ∙ cut-low 256 (products c) 1 (omega arith) ∙ ap (λ (s : F). s ⊙ c) of-one ∙ one-⊙ c
+
+pub row-products : (l : List ℕ) (c : F) → length l ≡ 256 → bytes l ≡ cut 256 (products c) → Row l
+unfolding products
+row-products l c h e =
+    record {
+      long = omega arith;
+      at = λ x b. ap (λ (f : Series). f x) e ∙ cut-low 256 (products c) x b ∙ ap (λ (s : F). of x ⊙ s) (sym (factor-products l c e));
+    }
+
+-- a lookup
+pub row-at : (l : List ℕ) (x : ℕ) → Row l → x < 256 → bytes l x ≡ factor l ⊙ of x
+row-at l x p h = p .at x h ∙ ⊙-comm _ _
+
+-- ---- levels
+
+pub record Level (c : F) (w t : ℕ) (l : List ℕ) : Type 0 where
+  pub exponent : ℕ
+  pub power : w ≡ 2 ^ exponent
+  pub room : w ≤ 256
+  pub top : w < 256 → of t ≡ of w ⊙ c
+  pub long : length l ≡ 256
+  pub is : bytes l ≡ cut w (products c)
+
+pub level-none : (c : F) (t : ℕ) → of t ≡ c → Level c 1 t (replicate 256 0)
+unfolding products
+level-none c t e =
+    record {
+      exponent = 0;
+      power = refl;
+      room = omega arith;
+      top = λ _. e ∙ sym (ap (λ (s : F). s ⊙ c) of-one ∙ one-⊙ c);
+      long = length-replicate {A = ℕ} 256 0;
+      is = read-zeros of 0 of-zero 256 (products c) ∙ sym (cut-zero 0 (products c) (ap (λ (s : F). s ⊙ c) of-zero ∙ zero-⊙ c));
+    }
+
+-- the next power of two
+pub power-room : (k : ℕ) → 2 ^ k < 256 → 2 ^ k + 2 ^ k ≤ 256
+power-room k h = go (decLe 8 k)
+  where
+    go : Dec (8 ≤ k) → 2 ^ k + 2 ^ k ≤ 256
+    go (yes l) = absurd (omega (arith, pow-le-pow-right {n = 2} (omega arith) l))
+    go (no l) = omega (arith, two-pow-succ k, pow-le-pow-right {n = 2} (omega arith) {i = suc k} {j = 8} (omega arith))
+
+pub level-room : {c : F} {w t : ℕ} {l : List ℕ} → Level c w t l → w < 256 → (0 < w) × (w + w ≤ 256)
+level-room p h = rw (p .power) (one-le-pow (p .exponent) 2 (omega arith), power-room (p .exponent) (omega (arith, p .power)))
+
+pub level-more : {c : F} {w t : ℕ} {l : List ℕ} (u : ℕ) (m : List ℕ) → Level c w t l → w < 256 → of u ≡ α ⊙ of t → length m ≡ length l
+    → bytes m ≡ bytes l ⊞ zpow w ⊠ cut w (λ i. bytes l i ⊕ of t) → Level c (w + w) u m
+unfolding products
+level-more {c} {w} {t} {l} u m p h e q n =
+    record {
+      exponent = suc (p .exponent);
+      power = ap (λ (k : ℕ). k + k) (p .power) ∙ sym (two-pow-succ (p .exponent));
+      room = level-room p h .1;
+      top = λ b. e ∙ ap (λ (s : F). α ⊙ s) (p .top h) ∙ sym (⊙-assoc α (of w) c) ∙ ap (λ (s : F). s ⊙ c) (sym (of-double w (omega arith)));
+      long = q ∙ p .long;
+      is = n ∙ ap₂ (λ (f g : Series). f ⊞ zpow w ⊠ g) (p .is) (cut-cong w _ _ next) ∙ sym (cut-join w w (products c));
+    }
+  where
+    high : (i : ℕ) → i < w → of (w + i) ≡ of i ⊕ of w
+    high i b = rw (p .power) (of-high (p .exponent) i (omega (arith, p .power)))
+
+    next : (i : ℕ) → i < w → bytes l i ⊕ of t ≡ drop w (products c) i
+    next i b =
+        ap₂ _⊕_ (ap (λ (f : Series). f i) (p .is) ∙ cut-low w (products c) i b) (p .top h)
+        ∙ sym (drop-at w (products c) i ∙ ap (λ (s : F). s ⊙ c) (high i b) ∙ ⊕-⊙ (of i) (of w) c)
