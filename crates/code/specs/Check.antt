@@ -1,0 +1,141 @@
+-- Blocks of bytes, tables of syndromes, and the words that the codeword check walks.
+--
+--   Fits p b         b is a block of the size that the valid profile p says
+--   table t          a table of syndromes: row i as a series, zero where nothing is stored
+--   rows r f         the rows f 0, .., f (r - 1), then zeros
+--   received p s k   the syndromes j < k of the subwords of the block s
+--   sums p s w       the words that a codeword has to be checked for: the nested words, then the subwords
+--
+-- Proved: a block is a codeword exactly if syndrome j of `sums p s w` is zero for each j below `checks p w` (codeword-sums, sums-codeword), so the check may
+-- end at the first that is not (check-passes, check-fails).
+use Prim.Native.Nat.{ℕ, zero, suc, _+_, _-_, _*_, _≤_, _<_}
+use mathlib.Core.Path.{_≡_, sym, ap, _∙_, fun-ext}
+use mathlib.Core.Logic.{_≢_}
+use mathlib.Core.Bool.{true, false, cond}
+use mathlib.Core.List.{List, []}
+use native.Mathlib.Decide.{decLt, ℕ-discrete}
+use native.Mathlib.Nat.{add-sub-cancel-left, suc-mul, mul-le-mul-right}
+use native.Mathlib.Omega.{arith}
+use lib.Dec.{ltb}
+use lib.ListN.{length, getD, set, take, drop, replicate, length-drop, length-replicate}
+use lib.Seq.{getD-set-same, getD-set-other, length-take-le}
+use borrow.Author.Tests.{lt-ltb, le-ltb}
+use Rattle.field.specs.declared.Gf.{Gf}
+use Rattle.field.specs.Field.{𝟎, of, val, val-zero}
+use Rattle.series.specs.Series.{Series, O}
+use Rattle.series.specs.Shift.{cut, cut-none, cut-low}
+use Rattle.series.specs.Degree.{below-O, below-cut-eq}
+use Rattle.series.specs.Decide.{holds, holds-yes, holds-no}
+use Rattle.series.specs.Array.{bytes, read-zeros}
+use Rattle.series.specs.Part.{read-take}
+use Rattle.polynomial.specs.Polynomial.{row, row-values}
+use Rattle.profile.specs.declared.Profile.{Profile}
+use Rattle.profile.specs.Definition.{checks, block-size}
+use Rattle.profile.specs.Valid.{Valid, checks-is, checks-high}
+use Rattle.reed_solomon.specs.Definition.{syndrome}
+use Rattle.reed_solomon.specs.Systematic.{syndrome-cong}
+use Rattle.code.specs.Definition.{subword, nested, Codeword}
+use Rattle.code.specs.Encoding.{codeword?}
+use Rattle.code.specs.Combined.{subword-part}
+
+pub record Fits (p : Profile) (b : List ℕ) : Type 0 where
+  pub valid : Valid p
+  pub size : length b ≡ block-size p
+
+-- subword i lies inside the block, and a block is small
+pub inside : (p : Profile) (b : List ℕ) (i : ℕ) → Fits p b → i < p .subwords → (i * p .length + p .length ≤ length b) × (length b ≤ 2040)
+inside p b i f h =
+    let here : suc i * p .length ≤ p .subwords * p .length = mul-le-mul-right (p .length) h in
+    let all : p .subwords * p .length ≤ 8 * p .length = mul-le-mul-right (p .length) (f .valid .subwords .1) in
+    (omega (arith, here, suc-mul i (p .length), f .size), omega (arith, all, f .valid .length .1, f .size))
+
+-- ---- tables of syndromes
+
+abbrev pub table : List (List Gf) → ℕ → Series
+table t i = row (getD t i [])
+
+-- the rows f 0, .., f (r - 1), then zeros
+abbrev pub rows : ℕ → (ℕ → Series) → ℕ → Series
+rows r f i = cond (ltb i r) (f i) O
+
+-- "a table of eight strips by 48 syndromes, unused entries zero"
+abbrev pub received : Profile → Series → ℕ → ℕ → Series
+received p s k = rows (p .subwords) (λ i. cut k (syndrome (p .length) (subword (p .length) s i)))
+
+row-empty : row [] ≡ O
+unfolding row
+row-empty = ap (cut 48) (read-zeros val _ val-zero 0 O ∙ cut-none O) ∙ below-cut-eq 48 O (below-O 48)
+
+row-zeros : row (replicate {A = Gf} 48 (record { 0 = 0 })) ≡ O
+row-zeros = row-values (replicate 48 (record { 0 = 0 })) (length-replicate {A = Gf} 48 (record { 0 = 0 })) ∙ read-zeros val (record { 0 = 0 }) val-zero 48 O ∙ cut-none O
+
+pub rows-none : (f : ℕ → Series) → table (replicate 8 (replicate 48 (record { 0 = 0 }))) ≡ rows 0 f
+rows-none f = fun-ext (λ i. same 8 i ∙ sym (rw (le-ltb i 0 (omega arith))))
+  where
+    same : (r i : ℕ) → row (getD (replicate r (replicate 48 (record { 0 = 0 }))) i []) ≡ O
+    same zero i = row-empty
+    same (suc r) zero = row-zeros
+    same (suc r) (suc i) = same r i
+
+pub rows-more : (t : List (List Gf)) (i : ℕ) (r : List Gf) (f : ℕ → Series) → i < length t → table t ≡ rows i f → row r ≡ f i → table (set t i r) ≡ rows (i + 1) f
+rows-more t i r f h e q = fun-ext (λ a. go a (ℕ-discrete a i) (decLt a i))
+  where
+    go : (a : ℕ) → Dec (a ≡ i) → Dec (a < i) → table (set t i r) a ≡ rows (i + 1) f a
+    go a (yes s) l = rw (s, lt-ltb i (i + 1) (omega arith)) (ap row (getD-set-same t i r [] h) ∙ q)
+    go a (no s) (yes l) =
+        ap row (getD-set-other t i a r [] s) ∙ ap (λ (g : ℕ → Series). g a) e ∙ rw (lt-ltb a i l, lt-ltb a (i + 1) (omega arith))
+    go a (no s) (no l) =
+        ap row (getD-set-other t i a r [] s) ∙ ap (λ (g : ℕ → Series). g a) e ∙ rw (le-ltb a i (omega arith), le-ltb a (i + 1) (omega arith))
+
+-- ---- the codeword check
+
+abbrev pub sums : Profile → Series → ℕ → Series
+sums p s w = cond (ltb w (p .nested)) (nested p s w) (subword (p .length) s (w - p .nested))
+
+abbrev pub Vanish : Profile → Series → ℕ → Type 0
+Vanish p s w = (j : ℕ) → j < checks p w → syndrome (p .length) (sums p s w) j ≡ 𝟎
+
+module _ (p : Profile) (s : Series) where
+  pub sums-low : (w : ℕ) → w < p .nested → sums p s w ≡ nested p s w
+  sums-low w h = rw (lt-ltb w (p .nested) h)
+
+  pub sums-high : (w : ℕ) → p .nested ≤ w → sums p s w ≡ subword (p .length) s (w - p .nested)
+  sums-high w h = rw (le-ltb w (p .nested) h)
+
+  sums-subword : (i : ℕ) → sums p s (p .nested + i) ≡ subword (p .length) s i
+  sums-subword i = sums-high (p .nested + i) (omega arith) ∙ rw add-sub-cancel-left
+
+  pub codeword-sums : Codeword p s → (w : ℕ) → w < p .nested + p .subwords → Vanish p s w
+  codeword-sums c w h j q = go (decLt w (p .nested))
+    where
+      go : Dec (w < p .nested) → syndrome (p .length) (sums p s w) j ≡ 𝟎
+      go (yes l) = rw (sums-low w l) (c .nested-words w l j (omega (arith, checks-is p w)))
+      go (no l) =
+          rw (sums-high w (omega arith)) (c .subwords (w - p .nested) (omega arith) j (omega (arith, checks-high p w (omega arith))))
+
+  pub sums-codeword : ((w : ℕ) → w < p .nested + p .subwords → Vanish p s w) → Codeword p s
+  sums-codeword h = record {
+    subwords = λ i l j q. rw (sums-subword i) at (h (p .nested + i) (omega arith) j (omega (arith, checks-high p (p .nested + i) (omega arith))));
+    nested-words = λ l k j q. rw (sums-low l k) at (h l (omega arith) j (omega (arith, checks-is p l)));
+  }
+
+  pub check-passes : ((w : ℕ) → w < p .nested + p .subwords → Vanish p s w) → true ≡ holds (codeword? p s)
+  check-passes h = sym (holds-yes (codeword? p s) (sums-codeword h))
+
+  pub check-fails : (w j : ℕ) → w < p .nested + p .subwords → j < checks p w → syndrome (p .length) (sums p s w) j ≢ 𝟎 → false ≡ holds (codeword? p s)
+  check-fails w j h q n = sym (holds-no (codeword? p s) (λ c. n (codeword-sums c w h j q)))
+
+-- syndromes of a word that stands in the first n entries of an array
+pub prefix-syndrome : (n : ℕ) (l : List ℕ) (g : Series) (j : ℕ) → n ≤ length l → bytes l ≡ cut n g
+    → syndrome (length (take n l)) (bytes (take n l)) j ≡ syndrome n g j
+prefix-syndrome n l g j h e =
+    ap (λ k. syndrome k (bytes (take n l)) j) (length-take-le n l h)
+    ∙ syndrome-cong n _ g (λ q b. read-take of 0 n l q b ∙ ap (λ (f : Series). f q) e ∙ cut-low n g q b) j
+
+-- syndromes of a subword as a part of the block
+pub part-syndrome : (n i k : ℕ) (b : List ℕ) → k ≡ n → i * n + n ≤ length b
+    → syndrome (length (take k (drop (i * n) b))) (bytes (take k (drop (i * n) b))) ≡ syndrome n (subword n (bytes b) i)
+part-syndrome n i k b e h =
+    ap (λ k. syndrome (length (take k (drop (i * n) b))) (bytes (take k (drop (i * n) b)))) e
+    ∙ ap (λ k. syndrome k (bytes (take n (drop (i * n) b)))) (length-take-le n (drop (i * n) b) (omega (arith, length-drop (i * n) b)))
+    ∙ fun-ext (λ j. syndrome-cong n _ _ (λ q l. ap (λ (f : Series). f q) (subword-part n b i h) ∙ cut-low n _ q l) j)

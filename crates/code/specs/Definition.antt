@@ -1,0 +1,36 @@
+-- Codewords of a profile: document 01, "The field and the block". A block is a series of which the first m × n symbols are read.
+--
+--   subword n s i    subword i of the block s, document 01's strip
+--   nested p s l     nested word l, document 01's nested sum
+--   Codeword p s     the block s is a codeword
+--   Carries p d s    the data d stands in the data positions of the block s
+--   Encodes p d s    both
+use Prim.Native.Nat.{ℕ, _+_, _-_, _*_, _<_}
+use mathlib.Core.Path.{_≡_}
+use Rattle.field.specs.Field.{α, _⊙_, pow}
+use Rattle.series.specs.Sum.{sum}
+use Rattle.series.specs.Series.{Series}
+use Rattle.profile.specs.declared.Profile.{Profile}
+use Rattle.profile.specs.Definition.{capability, checks, room, data-start}
+use Rattle.reed_solomon.specs.Definition.{InCode}
+
+-- "A block is m × n bytes, strip after strip. Byte p of strip i is the coefficient of z^p in c_i(z)."
+unfoldable pub subword : ℕ → Series → ℕ → Series
+subword n s i q = s (i * n + q)
+
+-- "the sum over i of α^(i×l) × c_i"
+unfoldable pub nested : Profile → Series → ℕ → Series
+nested p s l q = sum (p .subwords) (λ i. pow α (i * l) ⊙ subword (p .length) s i q)
+
+-- "a block is a codeword if every strip is in the code of strength t0 and, for l from 0 to v−1, the sum .. is in the code of strength t_(v−l)"
+pub record Codeword (p : Profile) (s : Series) : Type 0 where
+  pub subwords : (i : ℕ) → i < p .subwords → InCode (p .length) (p .t0) (subword (p .length) s i)
+  pub nested-words : (l : ℕ) → l < p .nested → InCode (p .length) (capability p (p .nested - l)) (nested p s l)
+
+-- "Data fills them strip by strip, places rising."
+abbrev pub Carries : Profile → Series → Series → Type 0
+Carries p d s = (i : ℕ) → i < p .subwords → (q : ℕ) → q < room p i → subword (p .length) s i (checks p i + q) ≡ d (data-start p i + q)
+
+pub record Encodes (p : Profile) (d s : Series) : Type 0 where
+  pub code : Codeword p s
+  pub carries : Carries p d s

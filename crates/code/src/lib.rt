@@ -1,0 +1,109 @@
+// Codewords of a profile: syndromes of a block, nested words, the codeword check.
+ghost use Prim.Native.Nat.{_+_, _*_, _≤_, _<_};
+ghost use mathlib.Core.Path.{_≡_};
+ghost use lib.ListN.{length};
+ghost use Rattle.field.specs.Field.{val};
+ghost use Rattle.series.specs.Series.{K, _⊞_, _⊠_};
+ghost use Rattle.series.specs.Shift.{cut};
+ghost use Rattle.series.specs.Array.{bytes};
+ghost use Rattle.series.specs.Decide.{holds};
+ghost use Rattle.profile.specs.Definition.{block-size};
+ghost use Rattle.code.specs.Definition.{subword, nested as Nested};
+ghost use Rattle.code.specs.Encoding.{codeword?};
+ghost use Rattle.code.specs.Check.{Fits, table, received, sums};
+use field::Exponent;
+use field::Gf;
+use polynomial::SYNDROMES;
+use profile::Profile;
+
+// The most subwords of a block.
+pub const SUBWORDS: usize = 8;
+
+// The most positions of a word.
+pub const POSITIONS: usize = 255;
+
+// c times subword i of a block is added to the word.
+pub fn add_subword(p: Profile, c: Gf, block: &[u8], i: usize, word: &mut [u8])
+    requires { ⌜ Fits p (now block) × (i < p .subwords) × (p .length ≤ length (now word)) ⌝ }
+    ensures { λ _. ⌜ bytes (now (word .exit)) ≡ bytes (now (word .entry)) ⊞ K (val c) ⊠ cut (p .length) (subword (p .length) (bytes (now (block .entry))) i) ⌝ }
+{
+    let n = p.length as usize;
+    let row = kernel::product_row(c);
+    let a = i * n;
+    let e = a + n;
+    kernel::add_multiple(&row, &block[a..e], &mut word[..n]);
+}
+
+// Nested word l of a block, document 01's nested sum.
+pub fn nested_word(p: Profile, block: &[u8], l: usize) -> [u8; POSITIONS]
+    requires { ⌜ Fits p (now block) × (l < p .nested) ⌝ }
+    ensures { λ r. ⌜ bytes r ≡ cut (p .length) (Nested p (bytes (now (block .entry))) l) ⌝ }
+{
+    let m = p.subwords as usize;
+    let mut word = [0u8; POSITIONS];
+    let mut i: usize = 0;
+    while i < m {
+        let c = Exponent(i * l).power();
+        add_subword(p, c, block, i, &mut word);
+        i = i + 1;
+    }
+    word
+}
+
+// The syndromes j < k of the subwords: eight rows of 48, unused entries zero.
+pub fn syndromes(p: Profile, block: &[u8], k: usize) -> [[Gf; SYNDROMES]; SUBWORDS]
+    requires { ⌜ Fits p (now block) × (k ≤ 48) ⌝ }
+    ensures { λ r. ⌜ table r ≡ received p (bytes (now (block .entry))) k ⌝ }
+{
+    let n = p.length as usize;
+    let m = p.subwords as usize;
+    let mut out = [[Gf::ZERO; SYNDROMES]; SUBWORDS];
+    let mut i: usize = 0;
+    while i < m {
+        let a = i * n;
+        let e = a + n;
+        out[i] = reed_solomon::syndromes(&block[a..e], k);
+        i = i + 1;
+    }
+    out
+}
+
+// The words of the codeword check in their order: the nested words, then the subwords.
+fn word_of(p: Profile, block: &[u8], w: usize) -> [u8; POSITIONS]
+    requires { ⌜ Fits p (now block) × (w < p .nested + p .subwords) ⌝ }
+    ensures { λ r. ⌜ bytes r ≡ cut (p .length) (sums p (bytes (now (block .entry))) w) ⌝ }
+{
+    let v = p.nested as usize;
+    if w < v {
+        return nested_word(p, block, w);
+    }
+    let mut word = [0u8; POSITIONS];
+    add_subword(p, Gf::ONE, block, w - v, &mut word);
+    word
+}
+
+// Whether the block is a codeword: sums and syndromes are walked up to the first that is not zero.
+pub fn is_codeword(p: Profile, block: &[u8]) -> bool
+    requires { ⌜ Fits p (now block) ⌝ }
+    ensures { λ r. ⌜ r ≡ holds (codeword? p (bytes (now (block .entry)))) ⌝ }
+{
+    let n = p.length as usize;
+    let words = p.nested as usize + p.subwords as usize;
+    let mut clean = true;
+    let mut w: usize = 0;
+    'words: while w < words {
+        let k = p.checks(w as u8) as usize;
+        let word = word_of(p, block, w);
+        let mut j: usize = 0;
+        while j < k {
+            let s = reed_solomon::syndrome(&word[..n], j);
+            if !s.is_zero() {
+                clean = false;
+                break 'words;
+            }
+            j = j + 1;
+        }
+        w = w + 1;
+    }
+    clean
+}

@@ -1,0 +1,57 @@
+-- The first j syndromes stand.
+use Prim.Native.Nat.{_-_, _≤_}
+use mathlib.Core.Path.{_≡_, ap, _∙_}
+use native.Mathlib.Omega.{arith}
+use lib.ListN.{length}
+use Rattle.series.specs.Shift.{cut}
+use Rattle.series.specs.Array.{bytes, Filled, filled-none, filled-more}
+use Rattle.polynomial.specs.Polynomial.{row-values}
+use Rattle.reed_solomon.specs.Definition.{syndrome}
+use borrow.Author.Needs.{needs}
+use Rattle.reed_solomon.proofs.syndromes.Statement.{statement}
+use Rattle.reed_solomon.proofs.syndromes.Tie as tie
+
+abbrev Inv-loop : tie.InvT-loop
+Inv-loop word k out₀ j₀ out j = (j ≤ k) × Filled 48 j (syndrome (length word) (bytes word)) out
+
+abbrev μ-loop : tie.MeasureT-loop
+μ-loop word k out₀ j₀ out j = k - j
+
+loop-holds : tie.Need-loop-holds Inv-loop μ-loop
+loop-holds c = (search needs, filled-none 48 _)
+
+syndrome-requires : tie.Need-syndrome-requires Inv-loop μ-loop
+syndrome-requires c κs = search needs
+
+array-set-from-out : tie.Need-array-set-from-out Inv-loop μ-loop
+array-set-from-out c = search needs
+
+add-j : tie.Need-add-j Inv-loop μ-loop
+add-j c = search needs
+
+loop-less : tie.Need-loop-less Inv-loop μ-loop
+loop-less c = search needs
+
+loop-again : tie.Need-loop-again Inv-loop μ-loop
+loop-again c = (omega arith, filled-more _ (c .before .before .loop .inv .1) (omega arith) (c .syndrome .ensures))
+
+returns : tie.Need-returns Inv-loop μ-loop
+returns c =
+    let end = c .before .loop in
+    let word = c .before .before .before .args .word .now in
+    let e : end .j ≡ c .before .before .before .args .k = omega (arith, end .inv .0) in
+    row-values _ (end .inv .1 .long) ∙ end .inv .1 .is ∙ ap (λ j. cut j (syndrome (length word) (bytes word))) e
+
+pub syndromes-spec : {M : Type 1} → statement M
+syndromes-spec =
+    tie.close
+    (tie.spec
+    Inv-loop
+    μ-loop
+    loop-holds
+    syndrome-requires
+    array-set-from-out
+    add-j
+    loop-less
+    loop-again
+    returns)

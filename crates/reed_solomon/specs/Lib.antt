@@ -1,0 +1,3 @@
+-- Definition is what the promises speak of.
+pub mod Definition
+pub mod Systematic
