@@ -2,7 +2,7 @@
 --
 --   combined n s c a r   the sum of c k times subword k of the block s, over the r subwords from a on
 --
--- Proved: no subword and one subword more (combined-none, combined-more); a nested word and what is carried to a subword are such sums (nested-combined, carried-combined); a subword as a
+-- Proved: no subword and one subword more (combined-none, combined-more); a nested word and what is carried to a subword are such sums (nested-combined, carried-combined, carried-none); a subword as a
 -- part of the bytes of a block (subword-part), and a multiple of it added to a word (add-part).
 use Prim.Native.Nat.{ℕ, suc, _+_, _-_, _*_, _≤_, _<_}
 use mathlib.Core.Path.{_≡_, refl, sym, ap, ap₂, _∙_, fun-ext}
@@ -14,13 +14,13 @@ use lib.ListN.{length, take, drop as drop-list, replicate}
 use Rattle.field.specs.Field.{F, α, _⊕_, _⊙_, ⊕-zero, pow, of, of-zero}
 use Rattle.series.specs.Sum.{sum, sum-none, sum-suc, sum-cong}
 use Rattle.series.specs.Series.{Series, O, O-at, K, _⊞_, _⊠_, ⊞-at, K-⊠-at}
-use Rattle.series.specs.Shift.{cut, cut-none, cut-⊞, cut-K-⊠, drop, drop-at}
+use Rattle.series.specs.Shift.{cut, cut-none, cut-unique, cut-⊞, cut-K-⊠, drop, drop-at}
 use Rattle.series.specs.Degree.{below-O, below-cut, below-cut-eq, below-K-⊠}
 use Rattle.series.specs.Array.{bytes, read-zeros}
 use Rattle.series.specs.Part.{read-take, read-drop, read-left, read-right, read-part}
 use Rattle.profile.specs.declared.Profile.{Profile}
 use Rattle.code.specs.Definition.{subword, nested}
-use Rattle.code.specs.Triangle.{ratio, carried}
+use Rattle.code.specs.Triangle.{ratio, carried, carried-high}
 
 unfoldable pub combined : ℕ → Series → (ℕ → F) → ℕ → ℕ → Series
 combined n s c a r q = sum r (λ k. c (a + k) ⊙ subword n s (a + k) q)
@@ -64,6 +64,13 @@ nested-combined p s l = fun-ext (λ q. sum-cong (p .subwords) _ _ (λ i h. ap (�
 pub carried-combined : (p : Profile) (s : Series) (i : ℕ) → combined (p .length) s (ratio (p .nested) i) (suc i) (p .subwords - suc i) ≡ carried p s i
 unfolding combined carried
 carried-combined p s i = refl
+
+-- from subword v on zeros are carried
+pub carried-none : (p : Profile) (s : Series) (i r : ℕ) → p .nested ≤ i → bytes (replicate r 0) ≡ cut (p .length) (carried p s i)
+carried-none p s i r h =
+    read-zeros of 0 of-zero r O
+    ∙ cut-none O
+    ∙ sym (cut-unique (p .length) (carried p s i) O (λ q l. carried-high p s i q h ∙ sym (O-at q)) (λ q l. O-at q))
 
 -- ---- subwords as parts of bytes
 

@@ -1,16 +1,16 @@
--- Doubling a byte, and bytes as sums of powers of two.
+-- Doubling a byte, bytes as sums of powers of two, and the last byte of a number.
 --
 -- Proved: a shift by one, with 29 added for the bit that falls out, is the product with α (of-twice, of-double); a power of two and
--- a number below it add up (of-high).
+-- a number below it add up (of-high); the value of a number is that of its last byte (of-mod).
 use Prim.Native.Nat.{ℕ, _+_, _*_, _/_, _%_, _^_, _<_}
 use mathlib.Core.Path.{_≡_, sym, ap, ap₂, _∙_}
-use mathlib.Core.Bool.{xor}
+use mathlib.Core.Bool.{false, xor}
 use native.Mathlib.Omega.{arith}
 use lib.Dec.{T, eqb, eqb→eq}
 use lib.Bits.{bitXor, xor-shifted, xor-zero-r}
 use Rattle.field.specs.Test.{all, all-at}
 use Rattle.field.specs.Definition.{F, 𝟎, α, _⊕_, plus, times, scale, z⁸, horner, modulo, coefficients, _⊙_, isOdd, of, bit, byte}
-use Rattle.field.specs.Sum.{⊕-comm}
+use Rattle.field.specs.Sum.{⊕-comm, zero-⊕}
 use Rattle.field.specs.Byte.{of-byte, of-xor}
 
 twice : ℕ → ℕ
@@ -36,3 +36,30 @@ of-high k i h =
     let e : 1 * 2 ^ k + i ≡ 2 ^ k + i = omega arith in
     let d : 1 * 2 ^ k ≡ 2 ^ k = omega arith in
     sym (ap of (xor-shifted 1 k i h ∙ e)) ∙ of-xor (1 * 2 ^ k) i ∙ ⊕-comm _ _ ∙ ap (λ (m : ℕ). of i ⊕ of m) d
+
+-- ---- the last byte
+
+even : (m : ℕ) → isOdd (m * 2) ≡ false
+unfolding isOdd
+even m = let e : m * 2 % 2 ≡ 0 = omega arith in ap (λ (k : ℕ). eqb k 1) e
+
+of-256 : (m : ℕ) → of (m * 256) ≡ 𝟎
+unfolding of 𝟎
+of-256 m =
+    let e0 : m * 256 ≡ m * 128 * 2 = omega arith in
+    let e1 : m * 256 / 2 ≡ m * 64 * 2 = omega arith in
+    let e2 : m * 256 / 4 ≡ m * 32 * 2 = omega arith in
+    let e3 : m * 256 / 8 ≡ m * 16 * 2 = omega arith in
+    let e4 : m * 256 / 16 ≡ m * 8 * 2 = omega arith in
+    let e5 : m * 256 / 32 ≡ m * 4 * 2 = omega arith in
+    let e6 : m * 256 / 64 ≡ m * 2 * 2 = omega arith in
+    let e7 : m * 256 / 128 ≡ m * 2 = omega arith in
+    rw (e7, e6, e5, e4, e3, e2, e1, e0) (simp even)
+
+pub of-mod : (n : ℕ) → of (n % 256) ≡ of n
+of-mod n =
+    let e : n / 256 * 2 ^ 8 + n % 256 ≡ n = omega arith in
+    sym (ap of (sym (xor-shifted (n / 256) 8 (n % 256) (omega arith) ∙ e))
+    ∙ of-xor (n / 256 * 256) (n % 256)
+    ∙ ap (λ (s : F). s ⊕ of (n % 256)) (of-256 (n / 256))
+    ∙ zero-⊕ _)

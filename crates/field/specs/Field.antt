@@ -4,7 +4,7 @@ pub use Rattle.field.specs.Sum.{⊕-assoc, ⊕-comm, ⊕-left-comm, ⊕-
 pub use Rattle.field.specs.Product.{⊙-assoc, ⊙-comm, ⊙-left-comm, ⊙-one, one-⊙, ⊙-zero, zero-⊙, ⊙-⊕, ⊕-⊙, ⊙-ring, one≢zero, alpha≢zero}
 pub use Rattle.field.specs.Byte.{of-byte, byte-of, byte-lt, byte-inj, of-inj, of-xor, byte-xor, of-zero, of-one, of-two, byte-zero, of-nonzero, _≟_}
 pub use Rattle.field.specs.Byte.{isZero-yes, isZero-no, isZero-true, isZero-false, val-of, val-zero, val-one, val-alpha, val-is-zero, val-nonzero}
-pub use Rattle.field.specs.Double.{of-twice, of-double, of-high}
+pub use Rattle.field.specs.Double.{of-twice, of-double, of-high, of-mod}
 pub use Rattle.field.specs.Power.{pow-zero, pow-suc, pow-one, pow-add, pow-mul, one-pow, pow-⊙}
 pub use Rattle.field.specs.Log.{log-lt, pow-log, log-pow}
 pub use Rattle.field.specs.Inverse.{pow-255, mul-inv, inv-mul, inv-zero, inv-unique, inv-nonzero, ⊙-cancel, ⊙-factor, ⊙-nonzero, pow-nonzero}

@@ -7,18 +7,17 @@
 --
 -- Proved: the first 256 products of c are a row with the factor c (row-products, factor-products). A loop that doubles w goes on by level-more:
 -- entry w + i is entry i and w times c.
-use Prim.Native.Nat.{ℕ, suc, _+_, _^_, _≤_, _<_}
-use mathlib.Core.Path.{_≡_, refl, sym, ap, ap₂, _∙_}
+use Prim.Native.Nat.{ℕ, _+_, _≤_, _<_}
+use mathlib.Core.Path.{_≡_, sym, ap, ap₂, _∙_}
 use mathlib.Core.List.{List}
-use native.Mathlib.Decide.{decLe}
-use native.Mathlib.Nat.{two-pow-succ, pow-le-pow-right, one-le-pow}
 use native.Mathlib.Omega.{arith}
 use lib.ListN.{length, replicate, length-replicate}
-use Rattle.field.specs.Field.{F, α, _⊕_, _⊙_, of, of-zero, of-one, of-double, of-high, zero-⊙, one-⊙, ⊙-assoc, ⊙-comm, ⊕-⊙}
+use Rattle.field.specs.Field.{F, α, _⊕_, _⊙_, of, of-zero, of-one, of-double, zero-⊙, one-⊙, ⊙-assoc, ⊙-comm, ⊕-⊙}
 use Rattle.series.specs.Series.{Series, _⊞_, _⊠_}
 use Rattle.series.specs.Shift.{zpow, drop, cut, drop-at, cut-low, cut-zero}
 use Rattle.series.specs.Array.{bytes, read-zeros}
 use Rattle.kernel.specs.Store.{cut-cong, cut-join}
+use Rattle.kernel.specs.Power.{Power, power-one, power-more, power-high}
 
 unfoldable pub products : F → Series
 products c x = of x ⊙ c
@@ -51,9 +50,7 @@ row-at l x p h = p .at x h ∙ ⊙-comm _ _
 -- ---- levels
 
 pub record Level (c : F) (w t : ℕ) (l : List ℕ) : Type 0 where
-  pub exponent : ℕ
-  pub power : w ≡ 2 ^ exponent
-  pub room : w ≤ 256
+  pub power : Power w
   pub top : w < 256 → of t ≡ of w ⊙ c
   pub long : length l ≡ 256
   pub is : bytes l ≡ cut w (products c)
@@ -62,42 +59,24 @@ pub level-none : (c : F) (t : ℕ) → of t ≡ c → Level c 1 t (replicate 256
 unfolding products
 level-none c t e =
     record {
-      exponent = 0;
-      power = refl;
-      room = omega arith;
+      power = power-one;
       top = λ _. e ∙ sym (ap (λ (s : F). s ⊙ c) of-one ∙ one-⊙ c);
       long = length-replicate {A = ℕ} 256 0;
       is = read-zeros of 0 of-zero 256 (products c) ∙ sym (cut-zero 0 (products c) (ap (λ (s : F). s ⊙ c) of-zero ∙ zero-⊙ c));
     }
-
--- the next power of two
-pub power-room : (k : ℕ) → 2 ^ k < 256 → 2 ^ k + 2 ^ k ≤ 256
-power-room k h = go (decLe 8 k)
-  where
-    go : Dec (8 ≤ k) → 2 ^ k + 2 ^ k ≤ 256
-    go (yes l) = absurd (omega (arith, pow-le-pow-right {n = 2} (omega arith) l))
-    go (no l) = omega (arith, two-pow-succ k, pow-le-pow-right {n = 2} (omega arith) {i = suc k} {j = 8} (omega arith))
-
-pub level-room : {c : F} {w t : ℕ} {l : List ℕ} → Level c w t l → w < 256 → (0 < w) × (w + w ≤ 256)
-level-room p h = rw (p .power) (one-le-pow (p .exponent) 2 (omega arith), power-room (p .exponent) (omega (arith, p .power)))
 
 pub level-more : {c : F} {w t : ℕ} {l : List ℕ} (u : ℕ) (m : List ℕ) → Level c w t l → w < 256 → of u ≡ α ⊙ of t → length m ≡ length l
     → bytes m ≡ bytes l ⊞ zpow w ⊠ cut w (λ i. bytes l i ⊕ of t) → Level c (w + w) u m
 unfolding products
 level-more {c} {w} {t} {l} u m p h e q n =
     record {
-      exponent = suc (p .exponent);
-      power = ap (λ (k : ℕ). k + k) (p .power) ∙ sym (two-pow-succ (p .exponent));
-      room = level-room p h .1;
+      power = power-more w (p .power) h;
       top = λ b. e ∙ ap (λ (s : F). α ⊙ s) (p .top h) ∙ sym (⊙-assoc α (of w) c) ∙ ap (λ (s : F). s ⊙ c) (sym (of-double w (omega arith)));
       long = q ∙ p .long;
       is = n ∙ ap₂ (λ (f g : Series). f ⊞ zpow w ⊠ g) (p .is) (cut-cong w _ _ next) ∙ sym (cut-join w w (products c));
     }
   where
-    high : (i : ℕ) → i < w → of (w + i) ≡ of i ⊕ of w
-    high i b = rw (p .power) (of-high (p .exponent) i (omega (arith, p .power)))
-
     next : (i : ℕ) → i < w → bytes l i ⊕ of t ≡ drop w (products c) i
     next i b =
         ap₂ _⊕_ (ap (λ (f : Series). f i) (p .is) ∙ cut-low w (products c) i b) (p .top h)
-        ∙ sym (drop-at w (products c) i ∙ ap (λ (s : F). s ⊙ c) (high i b) ∙ ⊕-⊙ (of i) (of w) c)
+        ∙ sym (drop-at w (products c) i ∙ ap (λ (s : F). s ⊙ c) (power-high w i (p .power) b) ∙ ⊕-⊙ (of i) (of w) c)

@@ -1,7 +1,8 @@
 -- Stores into arrays of bytes, as equations of series.
 --
 -- Proved: a store at j adds one term at z^j (bytes-set, bytes-add). A loop that writes g after the last coefficient of f, or adds a multiple of g,
--- goes on by one coefficient (append-more, multiple-more), and what stands before is kept (append-low). The first coefficients of a series, in two parts (cut-join).
+-- goes on by one coefficient (append-more, multiple-more), and what stands before is kept (append-low). The first coefficients of a series are
+-- found by what they are (cut-cong) and in two parts (cut-join).
 use Prim.Native.Nat.{ℕ, _+_, _≤_, _<_}
 use mathlib.Core.Path.{_≡_, sym, ap, ap₂, _∙_, fun-ext}
 use mathlib.Core.List.{List}
@@ -12,7 +13,8 @@ use lib.Bits.{bitXor}
 use lib.ListN.{length, getD, set}
 use Rattle.field.specs.Field.{F, 𝟎, _⊕_, _⊙_, of, of-xor, zero-⊕, ⊕-zero, ⊕-self-left, ⊙-ring}
 use Rattle.series.specs.Series.{Series, K, _⊞_, _⊠_, ⊞-at, K-⊠-at, ⊠-ring}
-use Rattle.series.specs.Shift.{zpow, drop, cut, zpow-add, zpow-at, zpow-low, zpow-one, zpow-other, drop-at, cut-low, cut-high, cut-none, cut-suc, cut-unique, cut-drop}
+use Rattle.series.specs.Shift.{zpow, drop, cut, zpow-add, zpow-at, zpow-low, zpow-one, zpow-other, drop-at}
+use Rattle.series.specs.Shift.{cut-low, cut-high, cut-none, cut-suc, cut-unique, cut-drop}
 use Rattle.series.specs.Degree.{below}
 use Rattle.series.specs.Array.{bytes, read-at, read-set-same, read-set-other}
 
@@ -28,16 +30,22 @@ bytes-xor l i y = of-xor _ y ∙ ap (λ (s : F). s ⊕ of y) (sym (read-at of 0 
 
 -- a term added to an entry
 pub bytes-add : (l : List ℕ) (j v : ℕ) (s : F) → j < length l → of v ≡ bytes l j ⊕ s → bytes (set l j v) ≡ bytes l ⊞ K s ⊠ zpow j
-bytes-add l j v s h e = bytes-set l j v h ∙ ap (λ (t : F). bytes l ⊞ K (bytes l j ⊕ t) ⊠ zpow j) e ∙ ap (λ (t : F). bytes l ⊞ K t ⊠ zpow j) (⊕-self-left _ s)
+bytes-add l j v s h e =
+    bytes-set l j v h ∙ ap (λ (t : F). bytes l ⊞ K t ⊠ zpow j) (ap (λ (t : F). bytes l j ⊕ t) e ∙ ⊕-self-left _ s)
 
 pub append-none : (a : ℕ) (f g : Series) → f ≡ f ⊞ zpow a ⊠ cut 0 g
 append-none a f g = rw cut-none (simp ⊠-ring)
 
+-- g added from position a on
+pub add-more : (l : List ℕ) (a i v : ℕ) (f g : Series) → a + i < length l → bytes l ≡ f ⊞ zpow a ⊠ cut i g → of v ≡ bytes l (a + i) ⊕ g i
+    → bytes (set l (a + i) v) ≡ f ⊞ zpow a ⊠ cut (i + 1) g
+add-more l a i v f g h e q = bytes-add l (a + i) v (g i) h q ∙ rw (e, zpow-add a i, add-one, cut-suc i g) (simp ⊠-ring)
+
+-- g written there, where nothing stood
 pub append-more : (l : List ℕ) (a i v : ℕ) (f g : Series) → a + i < length l → below a f → bytes l ≡ f ⊞ zpow a ⊠ cut i g → of v ≡ g i
     → bytes (set l (a + i) v) ≡ f ⊞ zpow a ⊠ cut (i + 1) g
 append-more l a i v f g h b e q =
-    bytes-add l (a + i) v (g i) h (q ∙ sym (ap (λ (t : F). t ⊕ g i) none ∙ zero-⊕ (g i)))
-    ∙ rw (e, zpow-add a i, add-one, cut-suc i g) (simp ⊠-ring)
+    add-more l a i v f g h e (q ∙ sym (ap (λ (t : F). t ⊕ g i) none ∙ zero-⊕ (g i)))
   where
     none : bytes l (a + i) ≡ 𝟎
     none = ap (λ (t : Series). t (a + i)) e ∙ rw (⊞-at, b (a + i) (omega arith), zpow-at, cut-high i g i (omega arith)) (zero-⊕ 𝟎)

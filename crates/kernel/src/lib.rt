@@ -1,92 +1,15 @@
 // Hot loops over lent bytes and lent tables.
 // The promises are equations of series: `bytes l` is the list l as the series of its entries, then zeros.
-ghost use Prim.Native.Nat.{_+_, _≤_, _<_};
-ghost use mathlib.Core.Path.{_≡_};
-ghost use lib.ListN.{length};
-ghost use Rattle.field.specs.Field.{α, _⊕_, _⊙_, of, val};
-ghost use Rattle.series.specs.Series.{K, _⊞_, _⊠_};
-ghost use Rattle.series.specs.Shift.{zpow, cut};
-ghost use Rattle.series.specs.Degree.{below};
-ghost use Rattle.series.specs.Value.{value};
-ghost use Rattle.series.specs.Array.{bytes};
-ghost use Rattle.kernel.specs.Row.{products, factor, Row};
-use field::Gf;
+mod byte;
+mod packed;
+mod row;
+mod table;
 
-// A byte as an index.
-fn wide(x: u8) -> usize
-    ensures { λ r. ⌜ (r ≡ x) × (r < 256) ⌝ }
-{
-    x as usize
-}
-
-// The bit that falls out comes back as z^8 modulo 285, which is 29.
-fn twice(x: u8) -> u8
-    ensures { λ r. ⌜ of r ≡ α ⊙ of x ⌝ }
-{
-    (x << 1) ^ ((x >> 7) * 29)
-}
-
-// The entries from w to 2w - 1: those below w, each with top added.
-fn level(top: u8, w: usize, row: &mut [u8])
-    requires { ⌜ (w + w ≤ length (now row)) × below w (bytes (now row)) ⌝ }
-    ensures { λ _. ⌜ bytes (now (row .exit)) ≡ bytes (now (row .entry)) ⊞ zpow w ⊠ cut w (λ i. bytes (now (row .entry)) i ⊕ of top) ⌝ }
-{
-    let mut i: usize = 0;
-    while i < w {
-        row[w + i] = row[i] ^ top;
-        i += 1;
-    }
-}
-
-// Entry x is x times c: the product is linear, so eight levels make the row with no product.
-pub fn product_row(c: Gf) -> [u8; 256]
-    ensures { λ r. ⌜ bytes r ≡ cut 256 (products (val c)) ⌝ }
-{
-    let mut row = [0u8; 256];
-    let mut top = c.0;
-    let mut w: usize = 1;
-    while w < 256 {
-        level(top, w, &mut row);
-        top = twice(top);
-        w = w + w;
-    }
-    row
-}
-
-// The value of a word at the row's factor, by Horner's rule from the last symbol: one lookup a symbol.
-pub fn value(row: &[u8], word: &[u8]) -> Gf
-    requires { ⌜ Row (now row) ⌝ }
-    ensures { λ r. ⌜ val r ≡ value (length (now (word .entry))) (bytes (now (word .entry))) (factor (now (row .entry))) ⌝ }
-{
-    let mut v: u8 = 0;
-    let mut i: usize = word.len();
-    while i > 0 {
-        i -= 1;
-        v = row[wide(v)] ^ word[i];
-    }
-    Gf(v)
-}
-
-// One lookup a symbol.
-pub fn add_multiple(row: &[u8], from: &[u8], to: &mut [u8])
-    requires { ⌜ Row (now row) × (length (now from) ≡ length (now to)) ⌝ }
-    ensures { λ _. ⌜ bytes (now (to .exit)) ≡ bytes (now (to .entry)) ⊞ K (factor (now (row .entry))) ⊠ bytes (now (from .entry)) ⌝ }
-{
-    let mut i: usize = 0;
-    while i < to.len() {
-        to[i] = to[i] ^ row[wide(from[i])];
-        i += 1;
-    }
-}
-
-// Sums symbol by symbol.
-pub fn add(from: &[u8], to: &mut [u8])
-    requires { ⌜ length (now from) ≡ length (now to) ⌝ }
-    ensures { λ _. ⌜ bytes (now (to .exit)) ≡ bytes (now (to .entry)) ⊞ bytes (now (from .entry)) ⌝ }
-{
-    let mut i: usize = 0;
-    while i < to.len() {
-        to[i] = to[i] ^ from[i];
-        i += 1;
-    }
-}
+pub use packed::Packed;
+pub use packed::remainder;
+pub use packed::unpack;
+pub use row::add;
+pub use row::add_multiple;
+pub use row::product_row;
+pub use row::value;
+pub use table::multiples;

@@ -5,37 +5,44 @@
 --   samples    the table
 --   proved     every entry's claim holds
 --
--- A run's polynomials are equal to those of the sample at every coefficient: below n + 1, n being the number of syndromes, antt computes both; from there
--- on both are zero.
-use Prim.Native.Nat.{ℕ, suc, _<_}
-use mathlib.Core.Path.{_≡_, sym, ap, _∙_, fun-ext}
-use mathlib.Core.Bool.{Bool, true, false, xor, _&&_}
+-- The encoding of data is defined by a search that is never run: a block that encodes the data is the encoding, and antt computes that it does.
+-- A run's polynomials are equal to those of the sample at every coefficient: below n + 1, n being the number of syndromes, antt computes both; from
+-- there on both are zero.
+use Prim.Native.Nat.{ℕ, suc}
+use mathlib.Core.Path.{_≡_, ap, _∙_}
+use mathlib.Core.Bool.{Bool, true, xor, _&&_}
 use mathlib.Core.List.{List, [], _∷_, map}
-use native.Mathlib.Decide.{decLt}
-use native.Mathlib.Omega.{arith}
-use lib.Dec.{T, eqb, leb, eqb→eq, leb→le}
+use mathlib.Core.Option.{some}
+use lib.Dec.{T, eqb, eqb→eq}
 use lib.IntN.{ℤ, pos, negsuc}
 use lib.ListN.{length}
-use Rattle.field.specs.Definition.{F, 𝟎, 𝟏, _⊕_, _⊙_, of, byte, isOdd, bit, isZero, pow, inv, plus, times, scale, z⁸, horner, modulo, coefficients}
-use Rattle.field.specs.Field.{byte-inj}
-use Rattle.field.specs.Test.{all, all-at, and-both}
+use Rattle.field.specs.Definition.{𝟎, 𝟏, α, _⊕_, _⊙_, of, byte, isOdd, bit, isZero, pow, inv, plus, times, scale, z⁸, horner, modulo, coefficients}
+use Rattle.field.specs.Test.{all, and-both}
 use Rattle.series.specs.Sum.{sum}
 use Rattle.series.specs.Series.{Series, O, K, Z, _⊞_, _⊠_}
-use Rattle.series.specs.Degree.{below, below-K-⊠}
-use Rattle.series.specs.Word.{entry, entry-past}
+use Rattle.series.specs.Degree.{below-K-⊠}
+use Rattle.series.specs.Value.{value}
+use Rattle.series.specs.Word.{entry}
+use Rattle.series.specs.Array as Array
+use Rattle.series.specs.Array.{bytes}
 use Rattle.iteration.specs.Shared.{swaps, from-to}
 use Rattle.iteration.specs.Plain as Plain
 use Rattle.iteration.specs.Run.{Factors, plain, scaled, joined, measure, factors}
 use Rattle.iteration.specs.Measure.{measure-below}
 use Rattle.iteration.specs.Ends.{finish, plain-end, scaled-end, scaled-end-Λ, scaled-end-B}
-
--- the bytes of a polynomial or of a list of syndromes, lowest power first
-abbrev pub bytes : List ℕ → Series
-bytes l = entry (map of l)
+use Rattle.profile.specs.declared.Parsed.the-variants.{Accepted}
+use Rattle.profile.specs.Definition.{read, profile-of, block-size, data-size}
+use Rattle.reed_solomon.specs.Definition.{root, syndrome}
+use Rattle.code.specs.Definition.{subword, nested}
+use Rattle.code.specs.Encoding.{encoding, encoding-bytes}
+use Rattle.samples.specs.Test.{equal, equal-is, same, same-is, sameℤ, sameℤ-is}
+use Rattle.samples.specs.Test.{passes, accepted, accepted-is, codeword, carries, encodes, encodes-is}
 
 pub data Sample : Type 0 where
   -- a × b = c
   product : (a b c : ℕ) → Sample
+  -- under the profile with the bytes b the data d is written as the block s
+  written : (b d s : List ℕ) → Sample
   -- the state after one round of these syndromes, in the plain form
   plain-run : (S Λ B : List ℕ) (γ : ℕ) (k : ℤ) → Sample
   -- and in the scaled form
@@ -43,6 +50,8 @@ pub data Sample : Type 0 where
 
 unfoldable pub Claim : Sample → Type 0
 Claim (product a b c) = byte (of a ⊙ of b) ≡ c
+Claim (written b d s) =
+    (profile-of b ≡ Accepted (read b)) × (length d ≡ data-size (read b)) × (encoding (read b) (map of d) ≡ some (map of s))
 Claim (plain-run S Λ B γ k) = finish plain (map of S ∷ []) .state ≡ record { Λ = bytes Λ; B = bytes B; γ = of γ; k = k }
 Claim (scaled-run S Λ B γ′) =
     (finish scaled (map of S ∷ []) .state .Λ ≡ bytes Λ) × (finish scaled (map of S ∷ []) .state .B ≡ bytes B) × (finish scaled (map of S ∷ []) .state .γ′ ≡ of γ′)
@@ -53,6 +62,8 @@ samples =
     product 2 128 29  -- P1
     ∷ product 2 142 1  -- P2
     ∷ product 3 244 1  -- P3
+    ∷ written (2 ∷ 1 ∷ 5 ∷ 1 ∷ 2 ∷ 0 ∷ 0 ∷ []) (1 ∷ 0 ∷ 0 ∷ 0 ∷ []) (116 ∷ 231 ∷ 216 ∷ 30 ∷ 1 ∷ 0 ∷ 0 ∷ 0 ∷ 0 ∷ 0 ∷ [])  -- P4
+    ∷ written (2 ∷ 1 ∷ 5 ∷ 1 ∷ 2 ∷ 0 ∷ 0 ∷ []) (0 ∷ 1 ∷ 0 ∷ 0 ∷ []) (8 ∷ 6 ∷ 1 ∷ 0 ∷ 0 ∷ 8 ∷ 6 ∷ 1 ∷ 0 ∷ 0 ∷ [])  -- P5
     ∷ plain-run (2 ∷ 4 ∷ []) (2 ∷ 4 ∷ []) (0 ∷ 1 ∷ []) 2 (pos 0)  -- P6
     ∷ scaled-run (2 ∷ 4 ∷ []) (1 ∷ 2 ∷ []) (0 ∷ 1 ∷ []) 2  -- P6
     ∷ plain-run (0 ∷ 1 ∷ []) (1 ∷ 0 ∷ 1 ∷ []) (1 ∷ []) 1 (negsuc 1)  -- P7, k = −2
@@ -65,41 +76,6 @@ All P [] = Unit {0}
 All P (s ∷ ss) = P s × All P ss
 
 -- ---- the test that antt computes
-
--- f and l agree below n, and l has no more than n
-same : ℕ → Series → List ℕ → Bool
-same n f l = leb (length (map of l)) n && all n (λ i. eqb (byte (f i)) (byte (bytes l i)))
-
-same-is : (n : ℕ) (f : Series) (l : List ℕ) → below n f → T (same n f l) → f ≡ bytes l
-unfolding same
-same-is n f l b t = fun-ext (λ i. go i (decLt i n))
-  where
-    tests : T (leb (length (map of l)) n) × T (all n (λ i. eqb (byte (f i)) (byte (bytes l i))))
-    tests = and-both (leb (length (map of l)) n) _ t
-
-    go : (i : ℕ) → Dec (i < n) → f i ≡ bytes l i
-    go i (yes q) = byte-inj _ _ (eqb→eq _ _ (all-at n (λ i. eqb (byte (f i)) (byte (bytes l i))) (tests .1) i q))
-    go i (no q) = b i (omega arith) ∙ sym (entry-past (map of l) i (omega (arith, leb→le (length (map of l)) n (tests .0))))
-
-equal : F → F → Bool
-equal x y = eqb (byte x) (byte y)
-
-equal-is : (x y : F) → T (equal x y) → x ≡ y
-unfolding equal
-equal-is x y t = byte-inj x y (eqb→eq _ _ t)
-
-sameℤ : ℤ → ℤ → Bool
-sameℤ (pos a) (pos b) = eqb a b
-sameℤ (pos a) (negsuc b) = false
-sameℤ (negsuc a) (pos b) = false
-sameℤ (negsuc a) (negsuc b) = eqb a b
-
-sameℤ-is : (a b : ℤ) → T (sameℤ a b) → a ≡ b
-unfolding sameℤ
-sameℤ-is (pos a) (pos b) t = ap pos (eqb→eq a b t)
-sameℤ-is (pos a) (negsuc b) t = absurd t
-sameℤ-is (negsuc a) (pos b) t = absurd t
-sameℤ-is (negsuc a) (negsuc b) t = ap negsuc (eqb→eq a b t)
 
 -- one round, and its length
 abbrev J : List ℕ → Series
@@ -117,12 +93,20 @@ scaled-test S Λ B γ′ m x =
 
 test : Sample → Bool
 test (product a b c) = eqb (byte (of a ⊙ of b)) c
+test (written b d s) =
+    accepted b && (eqb (length d) (data-size (read b)) && (eqb (length s) (block-size (read b)) && encodes (read b) (bytes d) (bytes s)))
 test (plain-run S Λ B γ k) = plain-test S Λ B γ k (measure (J S) (n S))
 test (scaled-run S Λ B γ′) = scaled-test S Λ B γ′ (measure (J S) (n S)) (factors (J S) (n S))
 
 holding : (s : Sample) → T (test s) → Claim s
 unfolding test Claim plain-test scaled-test
 holding (product a b c) t = eqb→eq _ c t
+holding (written b d s) t =
+    let (t0, t1) = and-both (accepted b) _ t in
+    let (t2, t3) = and-both (eqb (length d) (data-size (read b))) _ t1 in
+    let (t4, t5) = and-both (eqb (length s) (block-size (read b))) _ t3 in
+    let (e, valid) = accepted-is b t0 in
+    (e, eqb→eq _ _ t2, encoding-bytes (read b) valid d s (eqb→eq _ _ t4) (encodes-is (read b) (bytes d) (bytes s) t5))
 holding (plain-run S Λ B γ k) t =
     let m = measure (J S) (n S) in
     let (t0, t1) = and-both (same (suc (n S)) (m .Λ) Λ) _ t in
@@ -154,8 +138,9 @@ all-holding [] t = tt
 all-holding (s ∷ ss) t = let (t0, t1) = and-both (test s) _ t in (holding s t0, all-holding ss t1)
 
 computed : T (tests samples)
-unfolding tests test plain-test scaled-test same equal sameℤ samples all joined entry measure factors Plain.iterate Plain.δ swaps from-to sum O K Z _⊞_ _⊠_
-    𝟎 𝟏 _⊕_ _⊙_ of byte isOdd bit isZero pow inv plus times scale z⁸ horner modulo coefficients xor
+unfolding samples tests test plain-test scaled-test equal same sameℤ passes accepted codeword carries encodes all Array.read entry
+    subword nested syndrome root value joined measure factors Plain.iterate Plain.δ swaps from-to sum O K Z _⊞_ _⊠_
+    𝟎 𝟏 α _⊕_ _⊙_ of byte isOdd bit isZero pow inv plus times scale z⁸ horner modulo coefficients xor
 computed = tt
 
 -- ---- the theorem

@@ -11,8 +11,8 @@ use Rattle.series.specs.Array.{bytes, read-at}
 use Rattle.kernel.specs.Store.{bytes-xor}
 use Rattle.kernel.specs.Row.{factor, row-at}
 use borrow.Author.Needs.{needs}
-use Rattle.kernel.proofs.value.Statement.{statement}
-use Rattle.kernel.proofs.value.Tie as tie
+use Rattle.kernel.proofs.row.value.Statement.{statement}
+use Rattle.kernel.proofs.row.value.Tie as tie
 
 abbrev Inv-loop : tie.InvT-loop
 Inv-loop row word v₀ i₀ v i = (i ≤ length word) × (of v ≡ value (length word - i) (drop i (bytes word)) (factor row))
@@ -47,10 +47,13 @@ loop-again c =
     let now = c .before .before .before .before .loop in
     let given = c .before .before .before .before .before .before .before in
     let index = c .before .before .wide in
-    let row = given .args .row .now in (
+    let row = given .args .row .now in
+    let product =
+    row-at row (index .result) (given .pre) (index .ensures .1)
+    ∙ ap (λ (s : F). factor row ⊙ s) (ap of (index .ensures .0) ∙ now .inv .1) in (
       omega arith,
       bytes-xor row (index .result) _
-          ∙ ap₂ _⊕_ (row-at row (index .result) (given .pre) (index .ensures .1) ∙ ap (λ (s : F). factor row ⊙ s) (ap of (index .ensures .0) ∙ now .inv .1)) (sym (read-at of 0 _ _))
+          ∙ ap₂ _⊕_ product (sym (read-at of 0 _ _))
           ∙ sym (value-horner _ _ _ (now .i) (omega arith) (now .inv .0)),
     )
 

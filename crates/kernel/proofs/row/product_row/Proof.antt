@@ -5,10 +5,11 @@ use native.Mathlib.Omega.{arith}
 use Rattle.field.specs.Field.{F, of, val-of}
 use Rattle.series.specs.Series.{Series}
 use Rattle.series.specs.Shift.{cut, cut-high}
-use Rattle.kernel.specs.Row.{products, Level, level-none, level-room, level-more}
+use Rattle.kernel.specs.Power.{power-room}
+use Rattle.kernel.specs.Row.{products, Level, level-none, level-more}
 use borrow.Author.Needs.{needs}
-use Rattle.kernel.proofs.product_row.Statement.{statement}
-use Rattle.kernel.proofs.product_row.Tie as tie
+use Rattle.kernel.proofs.row.product_row.Statement.{statement}
+use Rattle.kernel.proofs.row.product_row.Tie as tie
 
 abbrev Inv-loop : tie.InvT-loop
 Inv-loop row₀ top₀ w₀ row top w = Level (of top₀) w top row
@@ -25,7 +26,8 @@ slice-aggregate-level c = sym (c .before .before .loop .inv .long)
 level-requires : tie.Need-level-requires Inv-loop μ-loop
 level-requires c κs =
     let now = c .before .before .loop in
-    (omega (arith, level-room (now .inv) (c .before .loop-test .taken) .1, now .inv .long), λ i h. ap (λ (f : Series). f i) (now .inv .is) ∙ cut-high (now .w) _ i h)
+    let room = power-room (now .w) (now .inv .power) (c .before .loop-test .taken) .1 in
+    (omega (arith, room, now .inv .long), λ i h. ap (λ (f : Series). f i) (now .inv .is) ∙ cut-high (now .w) _ i h)
 
 twice-requires : tie.Need-twice-requires Inv-loop μ-loop
 twice-requires c κs = search needs
@@ -36,17 +38,18 @@ add-w c = search needs
 loop-less : tie.Need-loop-less Inv-loop μ-loop
 loop-less c =
     let turn = c .before .before .before .before in
-    omega (arith, level-room (turn .before .loop .inv) (turn .loop-test .taken) .0, turn .loop-test .taken)
+    omega (arith, power-room (turn .before .loop .w) (turn .before .loop .inv .power) (turn .loop-test .taken) .0, turn .loop-test .taken)
 
 loop-again : tie.Need-loop-again Inv-loop μ-loop
 loop-again c =
     let turn = c .before .before .before .before in
-    level-more _ _ (turn .before .loop .inv) (turn .loop-test .taken) (c .twice .ensures) (omega (arith, c .before .row2 .given)) (c .before .before .level .ensures)
+    level-more _ _ (turn .before .loop .inv) (turn .loop-test .taken) (c .twice .ensures) (omega (arith, c .before .row2 .given))
+    (c .before .before .level .ensures)
 
 returns : tie.Need-returns Inv-loop μ-loop
 returns c =
     let end = c .before .loop in
-    let e : end .w ≡ 256 = omega (arith, end .inv .room) in
+    let e : end .w ≡ 256 = omega (arith, end .inv .power .most) in
     end .inv .is ∙ ap (λ k. cut k (products (of (c .before .before .args .c .0)))) e ∙ ap (λ (a : F). cut 256 (products a)) (sym (val-of _))
 
 pub product-row-spec : {M : Type 1} → statement M

@@ -9,8 +9,8 @@ use Rattle.series.specs.Shift.{zpow, cut}
 use Rattle.series.specs.Array.{bytes}
 use Rattle.kernel.specs.Store.{bytes-xor, append-none, append-more, append-low}
 use borrow.Author.Needs.{needs}
-use Rattle.kernel.proofs.level.Statement.{statement}
-use Rattle.kernel.proofs.level.Tie as tie
+use Rattle.kernel.proofs.row.level.Statement.{statement}
+use Rattle.kernel.proofs.row.level.Tie as tie
 
 abbrev Inv-loop : tie.InvT-loop
 Inv-loop top w row₀ i₀ row i = (i ≤ w) × (length row ≡ length row₀) × (bytes row ≡ bytes row₀ ⊞ zpow w ⊠ cut i (λ k. bytes row₀ k ⊕ of top))
@@ -40,7 +40,8 @@ loop-again : tie.Need-loop-again Inv-loop μ-loop
 loop-again c =
     let now = c .before .before .loop in
     let given = c .before .before .before in
-    let sum = bytes-xor (now .row) (now .i) (given .args .top) ∙ ap (λ (s : F). s ⊕ of (given .args .top)) (append-low (now .row) (given .args .w) (now .i) _ _ (omega arith) (now .inv .2)) in (
+    let kept = append-low (now .row) (given .args .w) (now .i) _ _ (omega arith) (now .inv .2) in
+    let sum = bytes-xor (now .row) (now .i) (given .args .top) ∙ ap (λ (s : F). s ⊕ of (given .args .top)) kept in (
       omega arith,
       length-set (now .row) _ _ ∙ now .inv .1,
       append-more (now .row) (given .args .w) (now .i) _ _ _ (omega arith) (given .pre .1) (now .inv .2) sum,

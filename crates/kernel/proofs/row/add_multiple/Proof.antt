@@ -11,8 +11,8 @@ use Rattle.series.specs.Array.{bytes, read-at, below-read}
 use Rattle.kernel.specs.Store.{bytes-xor, multiple-none, multiple-more}
 use Rattle.kernel.specs.Row.{factor, row-at}
 use borrow.Author.Needs.{needs}
-use Rattle.kernel.proofs.add_multiple.Statement.{statement}
-use Rattle.kernel.proofs.add_multiple.Tie as tie
+use Rattle.kernel.proofs.row.add_multiple.Statement.{statement}
+use Rattle.kernel.proofs.row.add_multiple.Tie as tie
 
 abbrev Inv-loop : tie.InvT-loop
 Inv-loop row from to₀ i₀ to i = (i ≤ length to₀) × (length to ≡ length to₀) × (bytes to ≡ bytes to₀ ⊞ K (factor row) ⊠ cut i (bytes from))
@@ -33,7 +33,9 @@ wide-requires : tie.Need-wide-requires Inv-loop μ-loop
 wide-requires c κs = search needs
 
 shared-slice-read-to : tie.Need-shared-slice-read-to Inv-loop μ-loop
-shared-slice-read-to c = omega (arith, c .before .wide .ensures .1, c .before .before .before .before .before .before .before .before .before .pre .0 .long)
+shared-slice-read-to c =
+    let given = c .before .before .before .before .before .before .before .before .before in
+    omega (arith, c .before .wide .ensures .1, given .pre .0 .long)
 
 slice-write-to : tie.Need-slice-write-to Inv-loop μ-loop
 slice-write-to c = search needs
@@ -50,10 +52,14 @@ loop-again c =
     let given = c .before .before .before .before .before .before .before .before .before in
     let index = c .before .wide in
     let row = given .args .row .now in
-    let product = sym (read-at of 0 row (index .result)) ∙ row-at row (index .result) (given .pre .0) (index .ensures .1) ∙ ap (λ (s : F). factor row ⊙ s) (ap of (index .ensures .0) ∙ sym (read-at of 0 _ _)) in (
+    let product =
+    sym (read-at of 0 row (index .result))
+    ∙ row-at row (index .result) (given .pre .0) (index .ensures .1)
+    ∙ ap (λ (s : F). factor row ⊙ s) (ap of (index .ensures .0) ∙ sym (read-at of 0 _ _)) in
+    let sum = bytes-xor (now .to) (now .i) _ ∙ ap (λ (s : F). bytes (now .to) (now .i) ⊕ s) product in (
       omega arith,
       length-set (now .to) _ _ ∙ now .inv .1,
-      multiple-more (now .to) (now .i) _ (factor row) _ _ (omega arith) (now .inv .2) (bytes-xor (now .to) (now .i) _ ∙ ap (λ (s : F). bytes (now .to) (now .i) ⊕ s) product),
+      multiple-more (now .to) (now .i) _ (factor row) _ _ (omega arith) (now .inv .2) sum,
     )
 
 same-length : tie.Need-same-length Inv-loop μ-loop

@@ -1,0 +1,22 @@
+-- The table of multiples of the generator.
+use mathlib.Core.Path.{_∙_}
+use borrow.Author.Needs.{needs}
+use Rattle.reed_solomon.proofs.table.Statement.{statement}
+use Rattle.reed_solomon.proofs.table.Tie as tie
+
+generator-requires : tie.Need-generator-requires
+generator-requires c κs = search needs
+
+multiples-requires : tie.Need-multiples-requires
+multiples-requires c κs = search needs
+
+same-length : tie.Need-same-length
+same-length c = search needs
+
+returns : tie.Need-returns
+returns c =
+    let made = c .before .before .multiples .ensures in
+    record { multiples = made .0; generator = made .1 ∙ c .before .before .before .before .generator .ensures }
+
+pub table-spec : {M : Type 1} → statement M
+table-spec = tie.close (tie.spec generator-requires multiples-requires same-length returns)
