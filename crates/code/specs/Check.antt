@@ -132,10 +132,15 @@ prefix-syndrome n l g j h e =
     ap (λ k. syndrome k (bytes (take n l)) j) (length-take-le n l h)
     ∙ syndrome-cong n _ g (λ q b. read-take of 0 n l q b ∙ ap (λ (f : Series). f q) e ∙ cut-low n g q b) j
 
--- syndromes of a subword as a part of the block
+-- ---- a subword as a part of the block, k being the number of its symbols that the code has
+
+pub part-length : (n i k : ℕ) (b : List ℕ) → k ≡ n → i * n + n ≤ length b → length (take k (drop (i * n) b)) ≡ n
+part-length n i k b e h =
+    ap (λ k. length (take k (drop (i * n) b))) e ∙ length-take-le n (drop (i * n) b) (omega (arith, length-drop (i * n) b))
+
 pub part-syndrome : (n i k : ℕ) (b : List ℕ) → k ≡ n → i * n + n ≤ length b
     → syndrome (length (take k (drop (i * n) b))) (bytes (take k (drop (i * n) b))) ≡ syndrome n (subword n (bytes b) i)
 part-syndrome n i k b e h =
-    ap (λ k. syndrome (length (take k (drop (i * n) b))) (bytes (take k (drop (i * n) b)))) e
-    ∙ ap (λ k. syndrome k (bytes (take n (drop (i * n) b)))) (length-take-le n (drop (i * n) b) (omega (arith, length-drop (i * n) b)))
+    ap (λ l. syndrome l (bytes (take k (drop (i * n) b)))) (part-length n i k b e h)
+    ∙ ap (λ k. syndrome n (bytes (take k (drop (i * n) b)))) e
     ∙ fun-ext (λ j. syndrome-cong n _ _ (λ q l. ap (λ (f : Series). f q) (subword-part n b i h) ∙ cut-low n _ q l) j)

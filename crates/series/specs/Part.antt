@@ -3,7 +3,7 @@
 --   splice a n y l   the list l with y in place of the n entries from a on; it keeps the length (length-splice)
 --
 -- Proved, for arrays as series (`read` of Array): entries of beginnings, ends and joined lists (read-take, read-drop, read-left, read-right); a part is the
--- series from a on, cut at n (read-part); the whole with another part in it has the new part inside (splice-inside) and is as it was outside
+-- series from a on, cut at n (read-part, read-prefix); the whole with another part in it has the new part inside (splice-inside) and is as it was outside
 -- (splice-before, splice-after).
 use Prim.Native.Nat.{ℕ, _+_, _-_, _≤_, _<_}
 use mathlib.Core.Path.{_≡_, sym, ap, _∙_}
@@ -45,6 +45,11 @@ module _ {A : Type 0} (m : A → F) (d : A) where
       sym (cut-unique n (drop a (read m d l)) (read m d (take n (drop-list a l)))
       (λ i q. drop-at a (read m d l) i ∙ sym (read-take n (drop-list a l) i q ∙ read-drop a l i))
       (λ i q. below-read m d z (take n (drop-list a l)) i (omega (arith, length-take-le n (drop-list a l) (omega (arith, length-drop a l))))))
+
+  pub read-prefix : (z : m d ≡ 𝟎) (n : ℕ) (l : List A) → n ≤ length l → read m d (take n l) ≡ cut n (read m d l)
+  read-prefix z n l h =
+      sym (cut-unique n (read m d l) (read m d (take n l)) (λ i q. sym (read-take n l i q))
+      (λ i q. below-read m d z (take n l) i (omega (arith, length-take-le n l h))))
 
   module _ (a n : ℕ) (y l : List A) (h : a ≤ length l) where
     pub splice-before : (i : ℕ) → i < a → read m d (splice a n y l) i ≡ read m d l i

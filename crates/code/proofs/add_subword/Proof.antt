@@ -1,12 +1,11 @@
 -- The row of c, and the subword as a part of the block.
-use Prim.Native.Nat.{_+_, _-_, _*_, _≤_}
-use mathlib.Core.Path.{_≡_, sym, ap, _∙_}
+use Prim.Native.Nat.{_*_}
+use mathlib.Core.Path.{sym, _∙_}
 use native.Mathlib.Nat.{add-sub-cancel-left}
 use native.Mathlib.Omega.{arith}
-use lib.ListN.{length, take, drop, length-drop}
 use lib.Seq.{length-take-le}
 use Rattle.kernel.specs.Row.{row-products, factor-products}
-use Rattle.code.specs.Check.{inside}
+use Rattle.code.specs.Check.{inside, part-length}
 use Rattle.code.specs.Combined.{add-part}
 use borrow.Author.Needs.{needs}
 use Rattle.code.proofs.add_subword.Statement.{statement}
@@ -53,9 +52,9 @@ add-multiple-requires c κs =
     let a = given .args .i * n in
     let b = given .args .block .now in
     let w = given .args .word .now in
-    let room : n ≤ length (drop a b) = omega (arith, length-drop a b, inside _ _ (given .args .i) (given .pre .0) (given .pre .1)) in
-    let part : length (take (a + n - a) (drop a b)) ≡ n = ap (λ k. length (take k (drop a b))) (add-sub-cancel-left a n) ∙ length-take-le n (drop a b) room in
-    (row-products _ _ (search needs) (c .before .before .before .product-row .ensures), part ∙ sym (length-take-le n w (given .pre .2)))
+    (row-products _ _ (search needs) (c .before .before .before .product-row .ensures),
+    part-length n (given .args .i) _ b (add-sub-cancel-left a n) (inside _ _ (given .args .i) (given .pre .0) (given .pre .1) .0)
+    ∙ sym (length-take-le n w (given .pre .2)))
 
 same-length : tie.Need-same-length
 same-length c = search needs

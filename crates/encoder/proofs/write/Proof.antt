@@ -1,0 +1,167 @@
+-- The subwords from i on are right, and `end` is where the data of subword i - 1 end.
+use Prim.Native.Nat.{_+_, _-_, _≤_}
+use mathlib.Core.Path.{_≡_, sym, _∙_}
+use native.Mathlib.Omega.{arith}
+use lib.ListN.{length, drop, length-drop}
+use lib.Seq.{length-take-le}
+use Rattle.series.specs.Array.{bytes}
+use Rattle.profile.specs.Definition.{data-start}
+use Rattle.profile.specs.Valid.{checks-some, checks-most, data-size-is}
+use Rattle.code.specs.Check.{Fits}
+use Rattle.code.specs.Right.{all-right}
+use Rattle.encoder.specs.Write.{Made, Upper, turn, part-data, upper-next, table-for}
+use borrow.Author.Needs.{needs}
+use Rattle.encoder.proofs.write.Statement.{statement}
+use Rattle.encoder.proofs.write.Tie as tie
+
+abbrev Inv-loop : tie.InvT-loop
+Inv-loop p input out₀ n t₀ made₀ end₀ i₀ out t made end i =
+    (i ≤ p .subwords) × (end ≡ data-start p i) × Made made t × Fits p out × Upper p (bytes input) (bytes out) i
+
+abbrev μ-loop : tie.MeasureT-loop
+μ-loop p input out₀ n t₀ made₀ end₀ i₀ out t made end i = i
+
+cast-n : tie.Need-cast-n Inv-loop μ-loop
+cast-n c = search needs
+
+room-requires : tie.Need-room-requires Inv-loop μ-loop
+room-requires c κs = search needs
+
+cast-i : tie.Need-cast-i Inv-loop μ-loop
+cast-i c = search needs
+
+loop-holds : tie.Need-loop-holds Inv-loop μ-loop
+loop-holds c =
+    let given = c .before .before .before .before .before in (
+      omega arith,
+      given .pre .1 ∙ sym (data-size-is (given .args .p) (given .pre .0 .valid)),
+      record { size = search needs; table = λ h. absurd (omega arith) },
+      given .pre .0,
+      λ k h l. absurd (omega arith),
+    )
+
+sub-i : tie.Need-sub-i Inv-loop μ-loop
+sub-i c = search needs
+
+cast-checks : tie.Need-cast-checks Inv-loop μ-loop
+cast-checks c =
+    let given = c .before .before .before .before .before .before .before in
+    record { fits = omega (arith, given .pre .0 .valid .subwords, c .before .loop .inv .0) }
+
+checks-requires : tie.Need-checks-requires Inv-loop μ-loop
+checks-requires c κs = search needs
+
+cast-k : tie.Need-cast-k Inv-loop μ-loop
+cast-k c = search needs
+
+slice-aggregate-prepare : tie.Need-slice-aggregate-prepare Inv-loop μ-loop
+slice-aggregate-prepare c = search needs
+
+prepare-requires : tie.Need-prepare-requires Inv-loop μ-loop
+prepare-requires c κs =
+    let given = c .before .before .before .before .before .before .before .before .before in
+    let now = c .before .before .before .loop in
+    let p = given .args .p in
+    let k = c .before .checks .ensures in
+    (now .inv .2, omega (arith, checks-some p (given .pre .0 .valid) (now .i - 1), k), omega (arith, checks-most p (given .pre .0 .valid) (now .i - 1), k))
+
+sub-start : tie.Need-sub-start Inv-loop μ-loop
+sub-start c =
+    let given = c .before .before .before .before .before .before .before .before .before .before .before in
+    let now = c .before .before .before .before .before .loop in
+    let here = turn (given .args .p) (given .pre .0 .valid) _ (now .i) _ (now .end) (c .before .before .before .before .loop-test .taken) (now .inv .0) (given .pre .1) (c .before .before .before .checks .ensures) (now .inv .1) in
+    here .checks-le
+
+sub-start-2 : tie.Need-sub-start-2 Inv-loop μ-loop
+sub-start-2 c =
+    let given = c .before .before .before .before .before .before .before .before .before .before .before in
+    let now = c .before .before .before .before .before .loop in
+    let here = turn (given .args .p) (given .pre .0 .valid) _ (now .i) _ (now .end) (c .before .before .before .before .loop-test .taken) (now .inv .0) (given .pre .1) (c .before .before .before .checks .ensures) (now .inv .1) in
+    here .room-le
+
+slice-aggregate-write-subword : tie.Need-slice-aggregate-write-subword Inv-loop μ-loop
+slice-aggregate-write-subword c = search needs
+
+sub-write-subword : tie.Need-sub-write-subword Inv-loop μ-loop
+sub-write-subword c = search needs
+
+part-write-subword-start : tie.Need-part-write-subword-start Inv-loop μ-loop
+part-write-subword-start c = omega arith
+
+part-write-subword-end : tie.Need-part-write-subword-end Inv-loop μ-loop
+part-write-subword-end c =
+    let given = c .before .before .before .before .before .before .before .before .before .before .before .before in
+    let now = c .before .before .before .before .before .before .loop in
+    let here = turn (given .args .p) (given .pre .0 .valid) _ (now .i) _ (now .end) (c .before .before .before .before .before .loop-test .taken) (now .inv .0) (given .pre .1) (c .before .before .before .before .checks .ensures) (now .inv .1) in
+    here .end-le
+
+write-subword-requires : tie.Need-write-subword-requires Inv-loop μ-loop
+write-subword-requires c κs =
+    let given = c .before .before .before .before .before .before .before .before .before .before .before .before .before .before in
+    let now = c .before .before .before .before .before .before .before .before .loop in
+    let here = turn (given .args .p) (given .pre .0 .valid) _ (now .i) _ (now .end) (c .before .before .before .before .before .before .before .loop-test .taken) (now .inv .0) (given .pre .1) (c .before .before .before .before .before .before .checks .ensures) (now .inv .1) in
+    let input = given .args .input .now in
+    let start = now .end - (given .args .p .length - c .before .before .before .before .before .before .checks .result) in
+    let fits : now .end - start ≤ length (drop start input) = omega (arith, length-drop start input, here .end-le) in (
+      now .inv .3,
+      here .less,
+      table-for (c .before .before .before .before .before .before .checks .ensures) (c .before .before .before .before .prepare .ensures),
+      length-take-le (now .end - start) (drop start input) fits ∙ here .size,
+    )
+
+loop-less : tie.Need-loop-less Inv-loop μ-loop
+loop-less c = search needs
+
+loop-again : tie.Need-loop-again Inv-loop μ-loop
+loop-again c =
+    let given = c .before .before .before .before .before .before .before .before .before .before .before .before .before .before .before .before .before in
+    let now = c .before .before .before .before .before .before .before .before .before .before .before .loop in
+    let here = turn (given .args .p) (given .pre .0 .valid) _ (now .i) _ (now .end) (c .before .before .before .before .before .before .before .before .before .before .loop-test .taken) (now .inv .0) (given .pre .1) (c .before .before .before .before .before .before .before .before .before .checks .ensures) (now .inv .1) in
+    let p = given .args .p in
+    let ok = given .pre .0 .valid in
+    let input = given .args .input .now in
+    let start = now .end - (p .length - c .before .before .before .before .before .before .before .before .before .checks .result) in
+    let fits : start + (now .end - start) ≤ length input = omega (arith, here .end-le) in (
+      omega (arith, now .inv .0),
+      here .start,
+      record { size = search needs; table = λ h. c .before .before .before .before .before .before .before .prepare .ensures },
+      record { valid = ok; size = omega (arith, c .before .out .given, now .inv .3 .size) },
+      upper-next p ok _ (bytes input) _ _ (now .i - 1) (part-data p (now .i - 1) start (now .end - start) input (here .start) (here .size) fits)
+      (c .before .before .write-subword .ensures) (λ k h l. now .inv .4 k (omega (arith, h)) l),
+    )
+
+same-length : tie.Need-same-length Inv-loop μ-loop
+same-length c = c .before .loop .inv .3 .size ∙ sym (c .before .before .before .before .before .before .before .pre .0 .size)
+
+returns : tie.Need-returns Inv-loop μ-loop
+returns c =
+    let given = c .before .before .before .before .before .before .before in
+    all-right (given .args .p) (given .pre .0 .valid) _ _ (λ k l. c .before .loop .inv .4 k (omega (arith, c .loop-test .left)) l)
+
+pub write-spec : {M : Type 1} → statement M
+write-spec =
+    tie.close
+    (tie.spec
+    Inv-loop
+    μ-loop
+    cast-n
+    room-requires
+    cast-i
+    loop-holds
+    sub-i
+    cast-checks
+    checks-requires
+    cast-k
+    slice-aggregate-prepare
+    prepare-requires
+    sub-start
+    sub-start-2
+    slice-aggregate-write-subword
+    sub-write-subword
+    part-write-subword-start
+    part-write-subword-end
+    write-subword-requires
+    loop-less
+    loop-again
+    same-length
+    returns)

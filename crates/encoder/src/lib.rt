@@ -1,0 +1,170 @@
+// Writing a block: the one codeword with the given data in its data positions.
+// Subwords are written from the last to the first. Subword i is e plus the Reed-Solomon word of the data plus e, e being what the subwords above bring to it.
+ghost use Prim.Native.Nat.{_+_, _-_, _*_, _≤_, _<_};
+ghost use mathlib.Core.Path.{_≡_};
+ghost use lib.ListN.{length};
+ghost use Rattle.field.specs.Field.{_⊙_, inv, val};
+ghost use Rattle.series.specs.Series.{_⊞_, _⊠_};
+ghost use Rattle.series.specs.Shift.{cut, zpow};
+ghost use Rattle.series.specs.Array.{bytes};
+ghost use Rattle.profile.specs.Definition.{answer-of, checks as Checks, room as Room, data-size as DataSize};
+ghost use Rattle.reed_solomon.specs.Encoder.{Table};
+ghost use Rattle.code.specs.Definition.{Encodes};
+ghost use Rattle.code.specs.Newton.{newton as Newton};
+ghost use Rattle.code.specs.Triangle.{carried as Carried};
+ghost use Rattle.code.specs.Check.{Fits};
+ghost use Rattle.encoder.specs.Definition.{asked, writing, written};
+ghost use Rattle.encoder.specs.Write.{filled, Wrote, Made};
+use code::POSITIONS;
+use field::Exponent;
+use field::Gf;
+use profile::Answer;
+use profile::Parsed;
+use profile::Profile;
+use profile::Refusal;
+
+// The words of a table for check symbols.
+const TABLE: usize = 1536;
+
+// (x + α^0) .. (x + α^(i-1)) at x = α^k: Newton's polynomial i.
+fn newton(i: usize, k: usize) -> Gf
+    ensures { λ r. ⌜ val r ≡ Newton i k ⌝ }
+{
+    let x = Exponent(k).power();
+    let mut b = Gf::ONE;
+    let mut j: usize = 0;
+    while j < i {
+        let y = Exponent(j).power();
+        b = b.product(x.sum(y));
+        j = j + 1;
+    }
+    b
+}
+
+// How much of subword k is brought to subword i, i below v.
+fn ratio(i: usize, k: usize) -> Gf
+    ensures { λ r. ⌜ val r ≡ Newton i k ⊙ inv (Newton i i) ⌝ }
+{
+    let d = newton(i, i).inverse();
+    newton(i, k).product(d)
+}
+
+// What the subwords above i bring to subword i: nothing from subword v on.
+fn carried(p: Profile, i: usize, block: &[u8]) -> [u8; POSITIONS]
+    requires { ⌜ Fits p (now block) × (i < p .subwords) ⌝ }
+    ensures { λ r. ⌜ bytes r ≡ cut (p .length) (Carried p (bytes (now (block .entry))) i) ⌝ }
+{
+    let m = p.subwords as usize;
+    let v = p.nested as usize;
+    let mut word = [0u8; POSITIONS];
+    if v <= i {
+        return word;
+    }
+    let mut k = i + 1;
+    while k < m {
+        let c = ratio(i, k);
+        code::add_subword(p, c, block, k, &mut word);
+        k = k + 1;
+    }
+    word
+}
+
+// The questions about the sizes of input and output.
+fn judge(p: Profile, input: usize, output: usize) -> Parsed
+    ensures { λ a. ⌜ a ≡ asked input output (Parsed.Accepted p) ⌝ }
+{
+    if input != p.data_size() {
+        return Parsed::Refused(Refusal::InputSize);
+    }
+    if output != p.block_size() {
+        return Parsed::Refused(Refusal::OutputSize);
+    }
+    Parsed::Accepted(p)
+}
+
+// All questions, one by one.
+fn questions(profile: &[u8], input: usize, output: usize) -> Parsed
+    ensures { λ a. ⌜ a ≡ writing (now (profile .entry)) input output ⌝ }
+{
+    match profile::parse(profile) {
+        Parsed::Accepted(p) => judge(p, input, output),
+        Parsed::Refused(q) => Parsed::Refused(q),
+    }
+}
+
+// The word is e plus the Reed-Solomon word of the data plus e.
+fn fill(t: &[u64], k: usize, e: &[u8], input: &[u8], word: &mut [u8])
+    requires { ⌜ Table k (now t) × (k ≤ 48) × (length (now word) ≡ k + length (now input)) × (length (now e) ≡ length (now word)) ⌝ }
+    ensures { λ _. ⌜ bytes (now (word .exit)) ≡ filled (length (now (word .entry))) k (bytes (now (input .entry))) (bytes (now (e .entry))) ⌝ }
+{
+    bytes::copy(input, &mut word[k..]);
+    kernel::add(e, word);
+    reed_solomon::encode(t, k, word);
+    kernel::add(e, word);
+}
+
+// Subword i, once those above it are written.
+fn write_subword(p: Profile, t: &[u64], i: usize, input: &[u8], out: &mut [u8])
+    requires { ⌜ Fits p (now out) × (i < p .subwords) × Table (Checks p i) (now t) × (length (now input) ≡ Room p i) ⌝ }
+    ensures { λ _. ⌜ Wrote p (bytes (now (input .entry))) i (bytes (now (out .entry))) (bytes (now (out .exit))) ⌝ }
+{
+    let n = p.length as usize;
+    let k = p.checks(i as u8) as usize;
+    let e = carried(p, i, &out[..]);
+    let a = i * n;
+    let b = a + n;
+    fill(t, k, &e[..n], input, &mut out[a..b]);
+}
+
+// Room for a table.
+fn room() -> [u64; TABLE] {
+    [0u64; TABLE]
+}
+
+// The table for k check symbols, made anew unless it was made for them.
+fn prepare(t: &mut [u64], made: usize, k: usize)
+    requires { ⌜ Made made (now t) × (1 ≤ k) × (k ≤ 48) ⌝ }
+    ensures { λ _. ⌜ Table k (now (t .exit)) ⌝ }
+{
+    if made == k {
+        return;
+    }
+    reed_solomon::table(k, t);
+}
+
+// The whole block. A table is made for each number of check symbols.
+fn write(p: Profile, input: &[u8], out: &mut [u8])
+    requires { ⌜ Fits p (now out) × (length (now input) ≡ DataSize p) ⌝ }
+    ensures { λ _. ⌜ Encodes p (bytes (now (input .entry))) (bytes (now (out .exit))) ⌝ }
+{
+    let n = p.length as usize;
+    let mut t = room();
+    let mut made: usize = 0;
+    let mut end = input.len();
+    let mut i = p.subwords as usize;
+    while i > 0 {
+        i = i - 1;
+        let k = p.checks(i as u8) as usize;
+        prepare(&mut t, made, k);
+        made = k;
+        let start = end - (n - k);
+        write_subword(p, &t, i, &input[start..end], out);
+        end = start;
+    }
+}
+
+// Writes the block with the given data, document 01's writer. Refused: nothing is written.
+pub fn encode(profile: &[u8], data: &[u8], out: &mut [u8]) -> Answer
+    ensures answer { λ a. ⌜ a ≡ answer-of (writing (now (profile .entry)) (length (now («data» .entry))) (length (now (out .entry)))) ⌝ }
+    ensures block {
+        λ _. ⌜ now (out .exit) ≡ written (writing (now (profile .entry)) (length (now («data» .entry))) (length (now (out .entry)))) (now («data» .entry)) (now (out .entry)) ⌝
+    }
+{
+    match questions(profile, data.len(), out.len()) {
+        Parsed::Accepted(p) => {
+            write(p, data, out);
+            Answer::Accepted
+        }
+        Parsed::Refused(q) => Answer::Refused(q),
+    }
+}
