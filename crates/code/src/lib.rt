@@ -41,10 +41,12 @@ pub fn nested_word(p: Profile, block: &[u8], l: usize) -> [u8; POSITIONS]
 {
     let m = p.subwords as usize;
     let mut word = [0u8; POSITIONS];
+    let mut exponent: usize = 0;
     let mut i: usize = 0;
     while i < m {
-        let c = Exponent(i * l).power();
+        let c = Exponent(exponent).power();
         add_subword(p, c, block, i, &mut word);
+        exponent = exponent + l;
         i = i + 1;
     }
     word

@@ -1,24 +1,24 @@
 -- What the encoder's functions write.
 --
 --   filled n k d e     e plus the Reed-Solomon word of n symbols, k of them check symbols, of the data d plus e
+--   Placed k q d e w   the first q symbols of d, with e added, stand in w from position k on
 --   Wrote p d i s t    the block t is the block s with subword i written, d being its data
 --   Upper p D s i      the subwords from i on of the block s are right for the data D
 --   Made k t           t has room for a table, and holds the one for k check symbols if k is not 0
 use Prim.Native.Nat.{ℕ, zero, suc, _+_, _-_, _*_, _≤_, _<_}
 use mathlib.Core.Path.{_≡_, sym, ap, ap₂, _∙_, fun-ext, subst}
-use mathlib.Core.List.{List, _++_}
+use mathlib.Core.List.{List}
 use native.Mathlib.Decide.{decLt, ℕ-discrete}
 use native.Mathlib.Nat.{suc-mul, mul-le-mul-right}
 use native.Mathlib.Omega.{arith}
-use lib.ListN.{length, take, drop as drop-list, length-append, length-drop}
-use lib.Seq.{length-take-le}
-use Rattle.field.specs.Field.{_⊕_, ⊕-comm, of, of-zero}
+use lib.ListN.{length, set, take, drop as drop-list}
+use Rattle.field.specs.Field.{𝟎, _⊕_, ⊕-comm, ⊕-zero, of, of-zero}
 use Rattle.series.specs.Series.{Series, _⊞_, _⊠_, ⊞-at}
 use Rattle.series.specs.Shift.{zpow, drop, cut, zpow-at, drop-at, drop-⊞, drop-zpow, cut-low}
 use Rattle.series.specs.Degree.{below-cut, below-cut-eq}
 use Rattle.series.specs.Interpolation.{interpolate}
-use Rattle.series.specs.Array.{bytes, below-read}
-use Rattle.series.specs.Part.{splice, splice-inside, splice-after, read-take, read-left, read-part, read-prefix}
+use Rattle.series.specs.Array.{bytes, read-set-same, read-set-other, below-read}
+use Rattle.series.specs.Part.{splice, splice-inside, splice-after, read-part, read-prefix}
 use Rattle.profile.specs.declared.Profile.{Profile}
 use Rattle.profile.specs.Definition.{checks, room, data-start, data-size}
 use Rattle.profile.specs.Valid.{Valid, checks-room, data-start-most}
@@ -32,33 +32,36 @@ use Rattle.code.specs.Right.{Right, right-stays, right-step}
 unfoldable pub filled : ℕ → ℕ → Series → Series → Series
 filled n k d e = systematic n k (zpow k ⊠ d ⊞ e) ⊞ e
 
--- ---- the data in place
+-- ---- one word
 
--- d copied to the entries of w from k on
-copied : (k : ℕ) (d p w : List ℕ) → length p ≡ length d → length w ≡ k + length d
-    → drop k (bytes (splice k (length w - k) (take (length d) d ++ drop-list (length d) p) w)) ≡ bytes d
-copied k d p w lp lw = fun-ext (λ i. drop-at k _ i ∙ go i (decLt i (length d)))
+-- the first q data symbols, with e added, stand from position k on
+pub Placed : ℕ → ℕ → List ℕ → List ℕ → List ℕ → Type 0
+Placed k q d e w = (i : ℕ) → i < q → bytes w (k + i) ≡ bytes d i ⊕ bytes e (k + i)
+
+pub placed-none : (k : ℕ) (d e w : List ℕ) → Placed k 0 d e w
+unfolding Placed
+placed-none k d e w i h = absurd (omega arith)
+
+pub placed-more : (k q v : ℕ) (d e w : List ℕ) → k + q < length w → of v ≡ bytes d q ⊕ bytes e (k + q) → Placed k q d e w
+    → Placed k (q + 1) d e (set w (k + q) v)
+unfolding Placed
+placed-more k q v d e w h ev p i l = go (ℕ-discrete i q)
   where
-    y : List ℕ
-    y = take (length d) d ++ drop-list (length d) p
+    go : Dec (i ≡ q) → bytes (set w (k + q) v) (k + i) ≡ bytes d i ⊕ bytes e (k + i)
+    go (yes s) = rw s (read-set-same of 0 w (k + q) v h ∙ ev)
+    go (no s) = read-set-other of 0 w (k + q) (k + i) v (λ f. s (omega arith)) ∙ p i (omega arith)
 
-    whole : length (take (length d) d) ≡ length d
-    whole = length-take-le (length d) d (omega arith)
+pub placed-all : (k q : ℕ) (d e w : List ℕ) → length d ≤ q → length w ≡ k + length d → length e ≡ length w → Placed k q d e w
+    → drop k (bytes w) ≡ bytes d ⊞ drop k (bytes e)
+unfolding Placed
+placed-all k q d e w h lw le p = fun-ext (λ i. drop-at k _ i ∙ go i (decLt i (length d)) ∙ sym (⊞-at _ _ i ∙ ap (λ t. bytes d i ⊕ t) (drop-at k _ i)))
+  where
+    past : (l : List ℕ) (i : ℕ) → length l ≤ i → bytes l i ≡ 𝟎
+    past l i = below-read of 0 of-zero l i
 
-    long : length y ≡ length w - k
-    long =
-        length-append (take (length d) d) (drop-list (length d) p)
-        ∙ (let e : length (take (length d) d) + length (drop-list (length d) p) ≡ length w - k = omega (arith, whole, length-drop (length d) p) in e)
-
-    go : (i : ℕ) → Dec (i < length d) → bytes (splice k (length w - k) y w) (k + i) ≡ bytes d i
-    go i (yes l) =
-        splice-inside of 0 k (length w - k) y w (omega arith) long i (omega arith)
-        ∙ read-left of 0 (take (length d) d) (drop-list (length d) p) i (omega (arith, whole))
-        ∙ read-take of 0 (length d) d i l
-    go i (no l) =
-        splice-after of 0 k (length w - k) y w (omega arith) long (k + i) (omega arith)
-        ∙ below-read of 0 of-zero w (k + i) (omega arith)
-        ∙ sym (below-read of 0 of-zero d i (omega arith))
+    go : (i : ℕ) → Dec (i < length d) → bytes w (k + i) ≡ bytes d i ⊕ bytes e (k + i)
+    go i (yes l) = p i (omega arith)
+    go i (no l) = past w (k + i) (omega arith) ∙ sym (ap₂ _⊕_ (past d i (omega arith)) (past e (k + i) (omega arith)) ∙ ⊕-zero 𝟎)
 
 -- check symbols depend on what stands from position k on
 systematic-drop : (n k : ℕ) (f g : Series) → drop k f ≡ drop k g → systematic n k f ≡ systematic n k g
@@ -66,28 +69,20 @@ unfolding systematic check-symbols upper
 systematic-drop n k f g h =
     ap (λ (u : Series). interpolate k root (syndrome n (zpow k ⊠ u)) ⊞ zpow k ⊠ u) h
 
--- the four steps: the data copied, e added, the check symbols found, e added
-pub filled-is : (k : ℕ) (d e w y a s r : List ℕ) → length w ≡ k + length d → length a ≡ length w
-    → y ≡ take (length d) d ++ drop-list (length d) (take (length w - k) (drop-list k w))
-    → bytes a ≡ bytes (splice k (length w - k) y w) ⊞ bytes e
+-- the data with e added are placed, the check symbols found, e is added
+pub filled-is : (k : ℕ) (d e w a s r : List ℕ) → length a ≡ length w
+    → drop k (bytes a) ≡ bytes d ⊞ drop k (bytes e)
     → bytes s ≡ systematic (length a) k (bytes a)
     → bytes r ≡ bytes s ⊞ bytes e
     → bytes r ≡ filled (length w) k (bytes d) (bytes e)
 unfolding filled
-filled-is k d e w y a s r lw la ey ea es er =
+filled-is k d e w a s r la ea es er =
     er
     ∙ ap (λ (f : Series). f ⊞ bytes e)
     (es ∙ systematic-drop (length a) k _ (zpow k ⊠ bytes d ⊞ bytes e) same ∙ ap (λ n. systematic n k (zpow k ⊠ bytes d ⊞ bytes e)) la)
   where
-    part : length (take (length w - k) (drop-list k w)) ≡ length d
-    part = length-take-le (length w - k) (drop-list k w) (omega (arith, length-drop k w)) ∙ (let e : length w - k ≡ length d = omega arith in e)
-
     same : drop k (bytes a) ≡ drop k (zpow k ⊠ bytes d ⊞ bytes e)
-    same =
-        ap (drop k) (ea ∙ ap (λ y. bytes (splice k (length w - k) y w) ⊞ bytes e) ey)
-        ∙ drop-⊞ k _ _
-        ∙ ap (λ (f : Series). f ⊞ drop k (bytes e)) (copied k d _ w part lw ∙ sym (drop-zpow k (bytes d)))
-        ∙ sym (drop-⊞ k _ _)
+    same = ea ∙ ap (λ (f : Series). f ⊞ drop k (bytes e)) (sym (drop-zpow k (bytes d))) ∙ sym (drop-⊞ k _ _)
 
 -- ---- one subword
 

@@ -4,8 +4,8 @@ ghost use Prim.Native.Nat.{_+_, _-_, _*_, _≤_, _<_};
 ghost use mathlib.Core.Path.{_≡_};
 ghost use lib.ListN.{length};
 ghost use Rattle.field.specs.Field.{_⊙_, inv, val};
-ghost use Rattle.series.specs.Series.{_⊞_, _⊠_};
-ghost use Rattle.series.specs.Shift.{cut, zpow};
+ghost use Rattle.series.specs.Series.{_⊞_};
+ghost use Rattle.series.specs.Shift.{cut, drop};
 ghost use Rattle.series.specs.Array.{bytes};
 ghost use Rattle.profile.specs.Definition.{answer-of, checks as Checks, room as Room, data-size as DataSize};
 ghost use Rattle.reed_solomon.specs.Encoder.{Table};
@@ -92,13 +92,24 @@ fn questions(profile: &[u8], input: usize, output: usize) -> Parsed
     }
 }
 
+// The data plus e, from position k on.
+fn place(k: usize, e: &[u8], input: &[u8], word: &mut [u8])
+    requires { ⌜ (length (now word) ≡ k + length (now input)) × (length (now e) ≡ length (now word)) ⌝ }
+    ensures { λ _. ⌜ drop k (bytes (now (word .exit))) ≡ bytes (now (input .entry)) ⊞ drop k (bytes (now (e .entry))) ⌝ }
+{
+    let mut q: usize = 0;
+    while q < input.len() {
+        word[k + q] = input[q] ^ e[k + q];
+        q = q + 1;
+    }
+}
+
 // The word is e plus the Reed-Solomon word of the data plus e.
 fn fill(t: &[u64], k: usize, e: &[u8], input: &[u8], word: &mut [u8])
     requires { ⌜ Table k (now t) × (k ≤ 48) × (length (now word) ≡ k + length (now input)) × (length (now e) ≡ length (now word)) ⌝ }
     ensures { λ _. ⌜ bytes (now (word .exit)) ≡ filled (length (now (word .entry))) k (bytes (now (input .entry))) (bytes (now (e .entry))) ⌝ }
 {
-    bytes::copy(input, &mut word[k..]);
-    kernel::add(e, word);
+    place(k, e, input, word);
     reed_solomon::encode(t, k, word);
     kernel::add(e, word);
 }
@@ -153,18 +164,24 @@ fn write(p: Profile, input: &[u8], out: &mut [u8])
     }
 }
 
-// Writes the block with the given data, document 01's writer. Refused: nothing is written.
+// A refusal leaves every byte of the output.
+fn refuse(q: Refusal, out: &mut [u8]) -> Answer
+    ensures answer { λ a. ⌜ a ≡ Answer.Refused q ⌝ }
+    ensures same { λ _. ⌜ now (out .exit) ≡ now (out .entry) ⌝ }
+{
+    Answer::Refused(q)
+}
+
+// Writes the block with the given data, document 01's writer.
 pub fn encode(profile: &[u8], data: &[u8], out: &mut [u8]) -> Answer
     ensures answer { λ a. ⌜ a ≡ answer-of (writing (now (profile .entry)) (length (now («data» .entry))) (length (now (out .entry)))) ⌝ }
-    ensures block {
-        λ _. ⌜ now (out .exit) ≡ written (writing (now (profile .entry)) (length (now («data» .entry))) (length (now (out .entry)))) (now («data» .entry)) (now (out .entry)) ⌝
-    }
+    ensures block { λ _. ⌜ now (out .exit) ≡ written (writing (now (profile .entry)) (length (now («data» .entry))) (length (now (out .entry)))) (now («data» .entry)) (now (out .entry)) ⌝ }
 {
     match questions(profile, data.len(), out.len()) {
         Parsed::Accepted(p) => {
             write(p, data, out);
             Answer::Accepted
         }
-        Parsed::Refused(q) => Answer::Refused(q),
+        Parsed::Refused(q) => refuse(q, out),
     }
 }

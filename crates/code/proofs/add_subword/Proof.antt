@@ -51,10 +51,11 @@ add-multiple-requires c κs =
     let n = given .args .p .length in
     let a = given .args .i * n in
     let b = given .args .block .now in
-    let w = given .args .word .now in
-    (row-products _ _ (search needs) (c .before .before .before .product-row .ensures),
-    part-length n (given .args .i) _ b (add-sub-cancel-left a n) (inside _ _ (given .args .i) (given .pre .0) (given .pre .1) .0)
-    ∙ sym (length-take-le n w (given .pre .2)))
+    let w = given .args .word .now in (
+      row-products _ _ (search needs) (c .before .before .before .product-row .ensures),
+      part-length n (given .args .i) _ b (add-sub-cancel-left a n) (inside _ _ (given .args .i) (given .pre .0) (given .pre .1) .0)
+          ∙ sym (length-take-le n w (given .pre .2)),
+    )
 
 same-length : tie.Need-same-length
 same-length c = search needs

@@ -25,6 +25,9 @@ write-requires c κs =
 enum-known-q : tie.Need-enum-known-q
 enum-known-q c = search needs
 
+refuse-requires : tie.Need-refuse-requires
+refuse-requires c κs = search needs
+
 same-length : tie.Need-same-length
 same-length c = search needs
 
@@ -33,16 +36,24 @@ returns c =
     let told = c .before .before .before .before .before in
     let given = told .before .before .before .before .before .before in
     let yes = sym (told .before .before .questions .ensures) ∙ told .p .given .1 in
-    let (ok, input, output) = accepted (given .args .profile .now) _ _ _ yes (omega arith) in
-    (sym (ap answer-of yes), written-is _ ok _ _ _ _ yes (omega (arith, c .before .out .given, output)) (λ i. omega (arith, c .slice-known2 .given i))
-    (c .before .before .write .ensures))
+    let (ok, input, output) = accepted (given .args .profile .now) _ _ _ yes (omega arith) in (
+      sym (ap answer-of yes),
+      written-is _ ok _ _ _ _ yes (omega (arith, c .before .out .given, output)) (λ i. omega (arith, c .slice-known2 .given i))
+          (c .before .before .write .ensures),
+    )
+
+same-length-2 : tie.Need-same-length-2
+same-length-2 c = search needs
 
 returns-2 : tie.Need-returns-2
 returns-2 c =
-    let told = c .before in
+    let refuse = c .before .before .refuse in
+    let told = c .before .before .before .before .before in
     let given = told .before .before .before .before .before .before in
-    let no = sym (told .before .before .questions .ensures) ∙ told .q .given .1 in
-    (sym (ap answer-of no), sym (ap (λ a. written a (given .args .«data» .now) (given .args .out .now)) no))
+    let no = sym (told .before .before .questions .ensures) ∙ told .q .given .1 in (
+      refuse .ensures .0 ∙ sym (ap answer-of no),
+      refuse .ensures .1 ∙ sym (ap (λ a. written a (given .args .«data» .now) (given .args .out .now)) no),
+    )
 
 pub encode-spec : {M : Type 1} → statement M
 encode-spec =
@@ -52,6 +63,8 @@ encode-spec =
     enum-known-p
     write-requires
     enum-known-q
+    refuse-requires
     same-length
     returns
+    same-length-2
     returns-2)

@@ -127,7 +127,7 @@ loop-again c =
       record { size = search needs; table = λ h. c .before .before .before .before .before .before .before .prepare .ensures },
       record { valid = ok; size = omega (arith, c .before .out .given, now .inv .3 .size) },
       upper-next p ok _ (bytes input) _ _ (now .i - 1) (part-data p (now .i - 1) start (now .end - start) input (here .start) (here .size) fits)
-      (c .before .before .write-subword .ensures) (λ k h l. now .inv .4 k (omega (arith, h)) l),
+          (c .before .before .write-subword .ensures) (λ k h l. now .inv .4 k (omega (arith, h)) l),
     )
 
 same-length : tie.Need-same-length Inv-loop μ-loop
