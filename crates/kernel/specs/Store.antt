@@ -3,7 +3,7 @@
 -- Proved: a store at j adds one term at z^j (bytes-set, bytes-add). A loop that writes g after the last coefficient of f, or adds a multiple of g,
 -- goes on by one coefficient (append-more, multiple-more), and what stands before is kept (append-low). The first coefficients of a series are
 -- found by what they are (cut-cong) and in two parts (cut-join).
-use Prim.Native.Nat.{ℕ, _+_, _≤_, _<_}
+use Prim.Native.Nat.{ℕ, _+_, _<_}
 use mathlib.Core.Path.{_≡_, sym, ap, ap₂, _∙_, fun-ext}
 use mathlib.Core.List.{List}
 use native.Mathlib.Decide.{ℕ-discrete}

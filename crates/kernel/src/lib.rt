@@ -1,15 +1,11 @@
-// Hot loops over lent bytes and lent tables.
+// Hot loops over lent bytes and lent rows of products.
 // The promises are equations of series: `bytes l` is the list l as the series of its entries, then zeros.
 mod byte;
-mod packed;
 mod row;
-mod table;
 
-pub use packed::Packed;
-pub use packed::remainder;
-pub use packed::unpack;
+pub use byte::twice;
+pub use byte::wide;
 pub use row::add;
 pub use row::add_multiple;
 pub use row::product_row;
 pub use row::value;
-pub use table::multiples;

@@ -17,10 +17,10 @@ fn level(top: u8, w: usize, row: &mut [u8])
     requires { ⌜ (w + w ≤ length (now row)) × below w (bytes (now row)) ⌝ }
     ensures { λ _. ⌜ bytes (now (row .exit)) ≡ bytes (now (row .entry)) ⊞ zpow w ⊠ cut w (λ i. bytes (now (row .entry)) i ⊕ of top) ⌝ }
 {
-    let mut i: usize = 0;
-    while i < w {
-        row[w + i] = row[i] ^ top;
-        i += 1;
+    let mut x: usize = 0;
+    while x < w {
+        row[w + x] = row[x] ^ top;
+        x += 1;
     }
 }
 
@@ -53,7 +53,7 @@ pub fn value(row: &[u8], word: &[u8]) -> Gf
     Gf(v)
 }
 
-// One lookup a symbol.
+// The row's factor times one word is added to another: one lookup a symbol.
 pub fn add_multiple(row: &[u8], from: &[u8], to: &mut [u8])
     requires { ⌜ Row (now row) × (length (now from) ≡ length (now to)) ⌝ }
     ensures { λ _. ⌜ bytes (now (to .exit)) ≡ bytes (now (to .entry)) ⊞ K (factor (now (row .entry))) ⊠ bytes (now (from .entry)) ⌝ }
@@ -70,9 +70,9 @@ pub fn add(from: &[u8], to: &mut [u8])
     requires { ⌜ length (now from) ≡ length (now to) ⌝ }
     ensures { λ _. ⌜ bytes (now (to .exit)) ≡ bytes (now (to .entry)) ⊞ bytes (now (from .entry)) ⌝ }
 {
-    let mut i: usize = 0;
-    while i < to.len() {
-        to[i] = to[i] ^ from[i];
-        i += 1;
+    let mut q: usize = 0;
+    while q < to.len() {
+        to[q] = to[q] ^ from[q];
+        q += 1;
     }
 }

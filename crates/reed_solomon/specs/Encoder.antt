@@ -4,21 +4,22 @@
 --
 -- Proved: what the remainder holds at the top is the check symbols (remainder-checks); a loop that writes r from the first position on goes on by
 -- front-more, and with the check symbols ends at the systematic word (front-all).
-use Prim.Native.Nat.{ℕ, suc, _+_, _-_, _≤_, _<_}
+use Prim.Native.Nat.{ℕ, _+_, _-_, _≤_, _<_}
 use mathlib.Core.Path.{_≡_, sym, _∙_, ap, ap₂}
 use mathlib.Core.List.{List}
 use native.Mathlib.Numerals.{add-one}
 use native.Mathlib.Omega.{arith}
 use lib.ListN.{length, set}
-use Rattle.field.specs.Field.{F, 𝟎, _⊕_, _⊙_, of, zero-⊕, ⊕-zero, power-nonzero, pow}
+use Rattle.field.specs.Field.{F, _⊕_, _⊙_, of, zero-⊕, power-nonzero, pow}
 use Rattle.series.specs.Series.{Series, K, Z, _⊞_, _⊠_, tail, ⊠-ring, ⊞-at, head-tail}
-use Rattle.series.specs.Shift.{zpow, drop, cut, zpow-zero, zpow-suc, zpow-at0, zpow-low, drop-at0, drop-none, drop-suc, drop-zpow, cut-none, cut-high, cut-suc}
-use Rattle.series.specs.Degree.{below, below-drop, below-cut-eq, below-⊠, below-zpow}
+use Rattle.series.specs.Shift.{zpow, drop, cut, zpow-zero, zpow-suc, zpow-at0, zpow-low, drop-at0, drop-none, drop-suc, drop-zpow}
+use Rattle.series.specs.Shift.{cut-none, cut-high, cut-suc}
+use Rattle.series.specs.Degree.{below-cut-eq}
 use Rattle.series.specs.Value.{value, value-split, value-zero}
 use Rattle.series.specs.Array.{bytes}
 use Rattle.kernel.specs.Store.{bytes-set}
-use Rattle.kernel.specs.Remainder.{remainder, below-remainder-top, remainder-top}
-use Rattle.kernel.specs.Multiples.{Multiples, lower}
+use Rattle.division.specs.Remainder.{remainder, below-remainder-top, remainder-top}
+use Rattle.division.specs.Multiples.{Multiples, lower}
 use Rattle.reed_solomon.specs.Definition.{root, syndrome, upper, check-symbols, systematic}
 use Rattle.reed_solomon.specs.Systematic.{below-check-symbols, check-symbols-is}
 use Rattle.reed_solomon.specs.Generator.{rest, aligned, below-rest, rest-value}

@@ -6,7 +6,7 @@
 --
 -- Proved: the rest has degree below k and, at each of the k roots, the value of z^k (rest-value); one root more, in place (aligned-more), by an array
 -- that holds z^48 + g divided by z (over-z).
-use Prim.Native.Nat.{ℕ, zero, suc, _+_, _-_, _≤_, _<_}
+use Prim.Native.Nat.{ℕ, zero, suc, _+_, _-_, _<_}
 use mathlib.Core.Path.{_≡_, sym, _∙_, ap, ap₂}
 use mathlib.Core.List.{List}
 use native.Mathlib.Decide.{ℕ-discrete}

@@ -1,4 +1,4 @@
--- Definition is what the promises speak of; Table names what `table` leaves for `encode`.
+-- Definition, and `Table` of Encoder, are what the promises speak of.
 pub mod Definition
 pub mod Systematic
 pub mod Generator

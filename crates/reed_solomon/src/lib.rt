@@ -28,7 +28,8 @@ pub fn syndrome(word: &[u8], j: usize) -> Gf
     requires { ⌜ j < 48 ⌝ }
     ensures { λ r. ⌜ val r ≡ Syndrome (length (now (word .entry))) (bytes (now (word .entry))) j ⌝ }
 {
-    let row = kernel::product_row(root(j));
+    let x = root(j);
+    let row = kernel::product_row(x);
     kernel::value(&row, word)
 }
 
@@ -38,10 +39,10 @@ pub fn syndromes(word: &[u8], k: usize) -> [Gf; SYNDROMES]
     ensures { λ r. ⌜ row r ≡ cut k (Syndrome (length (now (word .entry))) (bytes (now (word .entry)))) ⌝ }
 {
     let mut out = [Gf::ZERO; SYNDROMES];
-    let mut j: usize = 0;
-    while j < k {
-        out[j] = syndrome(word, j);
-        j = j + 1;
+    let mut i: usize = 0;
+    while i < k {
+        out[i] = syndrome(word, i);
+        i = i + 1;
     }
     out
 }
@@ -82,7 +83,7 @@ pub fn table(k: usize, t: &mut [u64])
     ensures { λ _. ⌜ Table k (now (t .exit)) ⌝ }
 {
     let g = generator(k);
-    kernel::multiples(g, t);
+    division::multiples(g, t);
 }
 
 // The first k symbols become the check symbols of the others.
@@ -90,12 +91,12 @@ pub fn encode(t: &[u64], k: usize, word: &mut [u8])
     requires { ⌜ Table k (now t) × (k ≤ 48) × (k ≤ length (now word)) ⌝ }
     ensures { λ _. ⌜ bytes (now (word .exit)) ≡ systematic (length (now (word .entry))) k (bytes (now (word .entry))) ⌝ }
 {
-    let r = kernel::remainder(t, word, k);
-    let checks = kernel::unpack(r);
+    let r = division::remainder(t, word, k);
+    let checks = division::unpack(r);
     let s = 48 - k;
-    let mut i: usize = 0;
-    while i < k {
-        word[i] = checks[s + i];
-        i += 1;
+    let mut p: usize = 0;
+    while p < k {
+        word[p] = checks[s + p];
+        p += 1;
     }
 }

@@ -1,4 +1,4 @@
--- The first i symbols are check symbols.
+-- The first p symbols are check symbols.
 use Prim.Native.Nat.{_+_, _-_, _≤_}
 use mathlib.Core.Path.{_≡_, refl, sym, ap, _∙_}
 use native.Mathlib.Omega.{arith}
@@ -13,11 +13,11 @@ use Rattle.reed_solomon.proofs.encode.Statement.{statement}
 use Rattle.reed_solomon.proofs.encode.Tie as tie
 
 abbrev Inv-loop : tie.InvT-loop
-Inv-loop t k word₀ checks s i₀ word i =
-    (i ≤ k) × (length word ≡ length word₀) × (bytes word ≡ cut i (drop s (bytes checks)) ⊞ zpow i ⊠ drop i (bytes word₀))
+Inv-loop t k word₀ checks s p₀ word p =
+    (p ≤ k) × (length word ≡ length word₀) × (bytes word ≡ cut p (drop s (bytes checks)) ⊞ zpow p ⊠ drop p (bytes word₀))
 
 abbrev μ-loop : tie.MeasureT-loop
-μ-loop t k word₀ checks s i₀ word i = k - i
+μ-loop t k word₀ checks s p₀ word p = k - p
 
 remainder-requires : tie.Need-remainder-requires Inv-loop μ-loop
 remainder-requires c κs = (c .before .before .before .pre .0 .multiples, c .before .before .before .pre .2)
@@ -40,8 +40,8 @@ array-read-word c = search needs
 slice-write-word : tie.Need-slice-write-word Inv-loop μ-loop
 slice-write-word c = search needs
 
-add-i : tie.Need-add-i Inv-loop μ-loop
-add-i c = search needs
+add-p : tie.Need-add-p Inv-loop μ-loop
+add-p c = search needs
 
 loop-less : tie.Need-loop-less Inv-loop μ-loop
 loop-less c = search needs
@@ -50,10 +50,10 @@ loop-again : tie.Need-loop-again Inv-loop μ-loop
 loop-again c =
     let now = c .before .loop in
     let s = 48 - c .before .before .before .before .before .before .before .args .k in
-    let next = sym (drop-at s (bytes (c .before .before .unpack .result)) (now .i) ∙ read-at of 0 _ (s + now .i)) in (
+    let next = sym (drop-at s (bytes (c .before .before .unpack .result)) (now .p) ∙ read-at of 0 _ (s + now .p)) in (
       omega arith,
       length-set (now .word) _ _ ∙ now .inv .1,
-      front-more (now .word) (now .i) _ _ _ (omega arith) (now .inv .2) next,
+      front-more (now .word) (now .p) _ _ _ (omega arith) (now .inv .2) next,
     )
 
 same-length : tie.Need-same-length Inv-loop μ-loop
@@ -65,7 +65,7 @@ returns c =
     let given = c .before .before .before .before .before .before .before in
     let k = given .args .k in
     let word = given .args .word .now in
-    let e : end .i ≡ k = omega arith in
+    let e : end .p ≡ k = omega arith in
     let checks =
     ap (drop (48 - k)) (c .before .before .unpack .ensures ∙ c .before .before .before .remainder .ensures)
     ∙ remainder-checks (length word) k (given .args .t .now) (bytes word) (given .pre .1) (given .pre .2) (given .pre .0) in
@@ -84,7 +84,7 @@ encode-spec =
     add-word
     array-read-word
     slice-write-word
-    add-i
+    add-p
     loop-less
     loop-again
     same-length

@@ -1,4 +1,4 @@
--- The first j syndromes stand.
+-- The first i syndromes stand.
 use Prim.Native.Nat.{_-_, _≤_}
 use mathlib.Core.Path.{_≡_, ap, _∙_}
 use native.Mathlib.Omega.{arith}
@@ -12,10 +12,10 @@ use Rattle.reed_solomon.proofs.syndromes.Statement.{statement}
 use Rattle.reed_solomon.proofs.syndromes.Tie as tie
 
 abbrev Inv-loop : tie.InvT-loop
-Inv-loop word k out₀ j₀ out j = (j ≤ k) × Filled 48 j (syndrome (length word) (bytes word)) out
+Inv-loop word k out₀ i₀ out i = (i ≤ k) × Filled 48 i (syndrome (length word) (bytes word)) out
 
 abbrev μ-loop : tie.MeasureT-loop
-μ-loop word k out₀ j₀ out j = k - j
+μ-loop word k out₀ i₀ out i = k - i
 
 loop-holds : tie.Need-loop-holds Inv-loop μ-loop
 loop-holds c = (search needs, filled-none 48 _)
@@ -26,8 +26,8 @@ syndrome-requires c κs = search needs
 array-set-from-out : tie.Need-array-set-from-out Inv-loop μ-loop
 array-set-from-out c = search needs
 
-add-j : tie.Need-add-j Inv-loop μ-loop
-add-j c = search needs
+add-i : tie.Need-add-i Inv-loop μ-loop
+add-i c = search needs
 
 loop-less : tie.Need-loop-less Inv-loop μ-loop
 loop-less c = search needs
@@ -39,8 +39,8 @@ returns : tie.Need-returns Inv-loop μ-loop
 returns c =
     let end = c .before .loop in
     let word = c .before .before .before .args .word .now in
-    let e : end .j ≡ c .before .before .before .args .k = omega (arith, end .inv .0) in
-    row-values _ (end .inv .1 .long) ∙ end .inv .1 .is ∙ ap (λ j. cut j (syndrome (length word) (bytes word))) e
+    let e : end .i ≡ c .before .before .before .args .k = omega (arith, end .inv .0) in
+    row-values _ (end .inv .1 .long) ∙ end .inv .1 .is ∙ ap (λ i. cut i (syndrome (length word) (bytes word))) e
 
 pub syndromes-spec : {M : Type 1} → statement M
 syndromes-spec =
@@ -51,7 +51,7 @@ syndromes-spec =
     loop-holds
     syndrome-requires
     array-set-from-out
-    add-j
+    add-i
     loop-less
     loop-again
     returns)

@@ -14,10 +14,10 @@ use Rattle.kernel.proofs.row.add.Statement.{statement}
 use Rattle.kernel.proofs.row.add.Tie as tie
 
 abbrev Inv-loop : tie.InvT-loop
-Inv-loop from to₀ i₀ to i = (i ≤ length to₀) × (length to ≡ length to₀) × (bytes to ≡ bytes to₀ ⊞ K 𝟏 ⊠ cut i (bytes from))
+Inv-loop from to₀ q₀ to q = (q ≤ length to₀) × (length to ≡ length to₀) × (bytes to ≡ bytes to₀ ⊞ K 𝟏 ⊠ cut q (bytes from))
 
 abbrev μ-loop : tie.MeasureT-loop
-μ-loop from to₀ i₀ to i = length to₀ - i
+μ-loop from to₀ q₀ to q = length to₀ - q
 
 loop-holds : tie.Need-loop-holds Inv-loop μ-loop
 loop-holds c = (search needs, refl, multiple-none _ _ _)
@@ -31,8 +31,8 @@ shared-slice-read-to c = search needs
 slice-write-to : tie.Need-slice-write-to Inv-loop μ-loop
 slice-write-to c = search needs
 
-add-i : tie.Need-add-i Inv-loop μ-loop
-add-i c = search needs
+add-q : tie.Need-add-q Inv-loop μ-loop
+add-q c = search needs
 
 loop-less : tie.Need-loop-less Inv-loop μ-loop
 loop-less c = search needs
@@ -43,7 +43,7 @@ loop-again c =
     let term = sym (read-at of 0 _ _) ∙ sym (one-⊙ _) in (
       omega arith,
       length-set (now .to) _ _ ∙ now .inv .1,
-      multiple-more (now .to) (now .i) _ 𝟏 _ _ (omega arith) (now .inv .2) (bytes-xor (now .to) (now .i) _ ∙ ap (λ (s : F). bytes (now .to) (now .i) ⊕ s) term),
+      multiple-more (now .to) (now .q) _ 𝟏 _ _ (omega arith) (now .inv .2) (bytes-xor (now .to) (now .q) _ ∙ ap (λ (s : F). bytes (now .to) (now .q) ⊕ s) term),
     )
 
 same-length : tie.Need-same-length Inv-loop μ-loop
@@ -53,7 +53,7 @@ returns : tie.Need-returns Inv-loop μ-loop
 returns c =
     let end = c .before .loop in
     let given = c .before .before in
-    let whole = below-cut-eq (end .i) _ (below-weaken (length (given .args .from .now)) (end .i) _ (below-read of 0 of-zero _) (omega (arith, given .pre))) in
+    let whole = below-cut-eq (end .q) _ (below-weaken (length (given .args .from .now)) (end .q) _ (below-read of 0 of-zero _) (omega (arith, given .pre))) in
     end .inv .2 ∙ ap (λ (f : Series). bytes (given .args .to .now) ⊞ f) (one-⊠ _ ∙ whole)
 
 pub add-spec : {M : Type 1} → statement M
@@ -66,7 +66,7 @@ add-spec =
     slice-read-to
     shared-slice-read-to
     slice-write-to
-    add-i
+    add-q
     loop-less
     loop-again
     same-length

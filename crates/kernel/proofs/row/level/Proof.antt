@@ -1,5 +1,5 @@
--- The first i entries of the level stand; what is below w is kept.
-use Prim.Native.Nat.{ℕ, _+_, _-_, _≤_}
+-- The first x entries of the level stand; what is below w is kept.
+use Prim.Native.Nat.{_-_, _≤_}
 use mathlib.Core.Path.{_≡_, refl, ap, _∙_}
 use native.Mathlib.Omega.{arith}
 use lib.ListN.{length, length-set}
@@ -13,10 +13,10 @@ use Rattle.kernel.proofs.row.level.Statement.{statement}
 use Rattle.kernel.proofs.row.level.Tie as tie
 
 abbrev Inv-loop : tie.InvT-loop
-Inv-loop top w row₀ i₀ row i = (i ≤ w) × (length row ≡ length row₀) × (bytes row ≡ bytes row₀ ⊞ zpow w ⊠ cut i (λ k. bytes row₀ k ⊕ of top))
+Inv-loop top w row₀ x₀ row x = (x ≤ w) × (length row ≡ length row₀) × (bytes row ≡ bytes row₀ ⊞ zpow w ⊠ cut x (λ k. bytes row₀ k ⊕ of top))
 
 abbrev μ-loop : tie.MeasureT-loop
-μ-loop top w row₀ i₀ row i = w - i
+μ-loop top w row₀ x₀ row x = w - x
 
 loop-holds : tie.Need-loop-holds Inv-loop μ-loop
 loop-holds c = (search needs, refl, append-none _ _ _)
@@ -30,8 +30,8 @@ add-row c = search needs
 slice-write-row : tie.Need-slice-write-row Inv-loop μ-loop
 slice-write-row c = search needs
 
-add-i : tie.Need-add-i Inv-loop μ-loop
-add-i c = search needs
+add-x : tie.Need-add-x Inv-loop μ-loop
+add-x c = search needs
 
 loop-less : tie.Need-loop-less Inv-loop μ-loop
 loop-less c = search needs
@@ -40,11 +40,11 @@ loop-again : tie.Need-loop-again Inv-loop μ-loop
 loop-again c =
     let now = c .before .before .loop in
     let given = c .before .before .before in
-    let kept = append-low (now .row) (given .args .w) (now .i) _ _ (omega arith) (now .inv .2) in
-    let sum = bytes-xor (now .row) (now .i) (given .args .top) ∙ ap (λ (s : F). s ⊕ of (given .args .top)) kept in (
+    let kept = append-low (now .row) (given .args .w) (now .x) _ _ (omega arith) (now .inv .2) in
+    let sum = bytes-xor (now .row) (now .x) (given .args .top) ∙ ap (λ (s : F). s ⊕ of (given .args .top)) kept in (
       omega arith,
       length-set (now .row) _ _ ∙ now .inv .1,
-      append-more (now .row) (given .args .w) (now .i) _ _ _ (omega arith) (given .pre .1) (now .inv .2) sum,
+      append-more (now .row) (given .args .w) (now .x) _ _ _ (omega arith) (given .pre .1) (now .inv .2) sum,
     )
 
 same-length : tie.Need-same-length Inv-loop μ-loop
@@ -53,7 +53,7 @@ same-length c = c .before .loop .inv .1
 returns : tie.Need-returns Inv-loop μ-loop
 returns c =
     let end = c .before .loop in
-    let e : end .i ≡ c .before .before .args .w = omega arith in
+    let e : end .x ≡ c .before .before .args .w = omega arith in
     rw e at (end .inv .2)
 
 pub level-spec : {M : Type 1} → statement M
@@ -66,7 +66,7 @@ level-spec =
     slice-read-row
     add-row
     slice-write-row
-    add-i
+    add-x
     loop-less
     loop-again
     same-length

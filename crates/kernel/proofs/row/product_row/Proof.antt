@@ -1,5 +1,5 @@
 -- The first w entries stand, w a power of two, and top is w times c.
-use Prim.Native.Nat.{_-_, _<_}
+use Prim.Native.Nat.{_-_}
 use mathlib.Core.Path.{_≡_, refl, sym, ap, _∙_}
 use native.Mathlib.Omega.{arith}
 use Rattle.field.specs.Field.{F, of, val-of}
@@ -26,7 +26,7 @@ slice-aggregate-level c = sym (c .before .before .loop .inv .long)
 level-requires : tie.Need-level-requires Inv-loop μ-loop
 level-requires c κs =
     let now = c .before .before .loop in
-    let room = power-room (now .w) (now .inv .power) (c .before .loop-test .taken) .1 in
+    let room = power-room (now .w) (now .inv .power) (omega (arith, c .before .loop-test .taken)) .1 in
     (omega (arith, room, now .inv .long), λ i h. ap (λ (f : Series). f i) (now .inv .is) ∙ cut-high (now .w) _ i h)
 
 twice-requires : tie.Need-twice-requires Inv-loop μ-loop
@@ -38,12 +38,13 @@ add-w c = search needs
 loop-less : tie.Need-loop-less Inv-loop μ-loop
 loop-less c =
     let turn = c .before .before .before .before in
-    omega (arith, power-room (turn .before .loop .w) (turn .before .loop .inv .power) (turn .loop-test .taken) .0, turn .loop-test .taken)
+    let now = turn .before .loop in
+    omega (arith, power-room (now .w) (now .inv .power) (omega (arith, turn .loop-test .taken)) .0, turn .loop-test .taken)
 
 loop-again : tie.Need-loop-again Inv-loop μ-loop
 loop-again c =
     let turn = c .before .before .before .before in
-    level-more _ _ (turn .before .loop .inv) (turn .loop-test .taken) (c .twice .ensures) (omega (arith, c .before .row2 .given))
+    level-more _ _ (turn .before .loop .inv) (omega (arith, turn .loop-test .taken)) (c .twice .ensures) (omega (arith, c .before .row2 .given))
     (c .before .before .level .ensures)
 
 returns : tie.Need-returns Inv-loop μ-loop

@@ -1,0 +1,4 @@
+pub mod Packed
+pub mod Remainder
+pub mod Multiples
+pub mod Building
