@@ -7,7 +7,6 @@ ghost use Rattle.series.specs.Series.{K, _⊞_, _⊠_};
 ghost use Rattle.series.specs.Shift.{cut};
 ghost use Rattle.series.specs.Array.{bytes};
 ghost use Rattle.series.specs.Decide.{holds};
-ghost use Rattle.profile.specs.Definition.{block-size};
 ghost use Rattle.code.specs.Definition.{subword, nested as Nested};
 ghost use Rattle.code.specs.Encoding.{codeword?};
 ghost use Rattle.code.specs.Check.{Fits, table, received, sums};

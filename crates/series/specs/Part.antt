@@ -12,7 +12,6 @@ use native.Mathlib.Omega.{arith}
 use lib.ListN.{length, take, drop as drop-list, length-drop, length-append, List·getD-append}
 use lib.Seq.{getD-take, getD-drop, getD-append-add, length-take-le}
 use Rattle.field.specs.Field.{F, 𝟎}
-use Rattle.series.specs.Series.{Series}
 use Rattle.series.specs.Shift.{cut, cut-unique, drop, drop-at}
 use Rattle.series.specs.Array.{read, read-at, below-read}
 

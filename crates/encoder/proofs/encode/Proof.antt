@@ -1,5 +1,5 @@
 -- Refused, or written.
-use mathlib.Core.Path.{refl, sym, ap, _∙_}
+use mathlib.Core.Path.{sym, ap, _∙_}
 use native.Mathlib.Omega.{arith}
 use Rattle.profile.specs.Definition.{answer-of}
 use Rattle.encoder.specs.Definition.{written}

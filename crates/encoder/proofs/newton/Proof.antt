@@ -1,9 +1,9 @@
 -- Newton's polynomial j, factor by factor.
-use Prim.Native.Nat.{_+_, _-_, _≤_}
+use Prim.Native.Nat.{_-_, _≤_}
 use mathlib.Core.Path.{_≡_, sym, ap, ap₂, _∙_}
 use native.Mathlib.Numerals.{add-one}
 use native.Mathlib.Omega.{arith}
-use Rattle.field.specs.Field.{F, α, _⊕_, _⊙_, pow, val, val-one}
+use Rattle.field.specs.Field.{_⊕_, _⊙_, val, val-one}
 use Rattle.code.specs.Newton.{newton, newton-none, newton-suc}
 use borrow.Author.Needs.{needs}
 use Rattle.encoder.proofs.newton.Statement.{statement}
