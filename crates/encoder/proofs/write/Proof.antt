@@ -69,14 +69,18 @@ sub-start : tie.Need-sub-start Inv-loop μ-loop
 sub-start c =
     let given = c .before .before .before .before .before .before .before .before .before .before .before in
     let now = c .before .before .before .before .before .loop in
-    let here = turn (given .args .p) (given .pre .0 .valid) _ (now .i) _ (now .end) (c .before .before .before .before .loop-test .taken) (now .inv .0) (given .pre .1) (c .before .before .before .checks .ensures) (now .inv .1) in
+    let test = c .before .before .before .before .loop-test .taken in
+    let checks = c .before .before .before .checks .ensures in
+    let here = turn (given .args .p) (given .pre .0 .valid) _ (now .i) _ (now .end) test (now .inv .0) (given .pre .1) checks (now .inv .1) in
     here .checks-le
 
 sub-start-2 : tie.Need-sub-start-2 Inv-loop μ-loop
 sub-start-2 c =
     let given = c .before .before .before .before .before .before .before .before .before .before .before in
     let now = c .before .before .before .before .before .loop in
-    let here = turn (given .args .p) (given .pre .0 .valid) _ (now .i) _ (now .end) (c .before .before .before .before .loop-test .taken) (now .inv .0) (given .pre .1) (c .before .before .before .checks .ensures) (now .inv .1) in
+    let test = c .before .before .before .before .loop-test .taken in
+    let checks = c .before .before .before .checks .ensures in
+    let here = turn (given .args .p) (given .pre .0 .valid) _ (now .i) _ (now .end) test (now .inv .0) (given .pre .1) checks (now .inv .1) in
     here .room-le
 
 slice-aggregate-write-subword : tie.Need-slice-aggregate-write-subword Inv-loop μ-loop
@@ -92,14 +96,18 @@ part-write-subword-end : tie.Need-part-write-subword-end Inv-loop μ-loop
 part-write-subword-end c =
     let given = c .before .before .before .before .before .before .before .before .before .before .before .before in
     let now = c .before .before .before .before .before .before .loop in
-    let here = turn (given .args .p) (given .pre .0 .valid) _ (now .i) _ (now .end) (c .before .before .before .before .before .loop-test .taken) (now .inv .0) (given .pre .1) (c .before .before .before .before .checks .ensures) (now .inv .1) in
+    let test = c .before .before .before .before .before .loop-test .taken in
+    let checks = c .before .before .before .before .checks .ensures in
+    let here = turn (given .args .p) (given .pre .0 .valid) _ (now .i) _ (now .end) test (now .inv .0) (given .pre .1) checks (now .inv .1) in
     here .end-le
 
 write-subword-requires : tie.Need-write-subword-requires Inv-loop μ-loop
 write-subword-requires c κs =
     let given = c .before .before .before .before .before .before .before .before .before .before .before .before .before .before in
     let now = c .before .before .before .before .before .before .before .before .loop in
-    let here = turn (given .args .p) (given .pre .0 .valid) _ (now .i) _ (now .end) (c .before .before .before .before .before .before .before .loop-test .taken) (now .inv .0) (given .pre .1) (c .before .before .before .before .before .before .checks .ensures) (now .inv .1) in
+    let test = c .before .before .before .before .before .before .before .loop-test .taken in
+    let checks = c .before .before .before .before .before .before .checks .ensures in
+    let here = turn (given .args .p) (given .pre .0 .valid) _ (now .i) _ (now .end) test (now .inv .0) (given .pre .1) checks (now .inv .1) in
     let input = given .args .input .now in
     let start = now .end - (given .args .p .length - c .before .before .before .before .before .before .checks .result) in
     let fits : now .end - start ≤ length (drop start input) = omega (arith, length-drop start input, here .end-le) in (
@@ -116,7 +124,9 @@ loop-again : tie.Need-loop-again Inv-loop μ-loop
 loop-again c =
     let given = c .before .before .before .before .before .before .before .before .before .before .before .before .before .before .before .before .before in
     let now = c .before .before .before .before .before .before .before .before .before .before .before .loop in
-    let here = turn (given .args .p) (given .pre .0 .valid) _ (now .i) _ (now .end) (c .before .before .before .before .before .before .before .before .before .before .loop-test .taken) (now .inv .0) (given .pre .1) (c .before .before .before .before .before .before .before .before .before .checks .ensures) (now .inv .1) in
+    let test = c .before .before .before .before .before .before .before .before .before .before .loop-test .taken in
+    let checks = c .before .before .before .before .before .before .before .before .before .checks .ensures in
+    let here = turn (given .args .p) (given .pre .0 .valid) _ (now .i) _ (now .end) test (now .inv .0) (given .pre .1) checks (now .inv .1) in
     let p = given .args .p in
     let ok = given .pre .0 .valid in
     let input = given .args .input .now in
