@@ -5,11 +5,12 @@
 --   weight n f  how many of the first n values of f are not zero: a strip's number of changes
 --
 -- Proved: a list of n values and the first n values of a series are the same thing (entry-word, word-entry, word-ext);
--- a sum weighs at most what its parts weigh together.
+-- a word cut in two weighs what its parts weigh together (weight-split), a sum at most that.
 use Prim.Native.Nat.{ℕ, zero, suc, _+_, _≤_, _<_}
 use mathlib.Core.Path.{_≡_, refl, sym, _∙_, ap, ap₂}
 use mathlib.Core.Logic.{_≢_, ite, if-pos, if-neg}
 use mathlib.Core.List.{List, [], _∷_}
+use native.Mathlib.Nat.{add-zero, add-suc}
 use native.Mathlib.Omega.{arith}
 use native.Mathlib.Decide.{ℕ-discrete}
 use lib.ListN.{length, getD, List·getD-eq-default}
@@ -99,6 +100,17 @@ zero-weight (suc n) f h p l = go (zero-weight n f (omega (arith, weight-suc n f 
     go ih (yes z) (yes e) = ap f e ∙ z
     go ih (no z) (yes e) = absurd (omega (arith, weight-take n f z))
     go ih z (no e) = ih (omega arith)
+
+pub weight-split : (m n : ℕ) (f : Series) → weight (m + n) f ≡ weight m f + weight n (λ i. f (m + i))
+weight-split m zero f = rw (add-zero, weight-none (λ i. f (m + i))) (sym (add-zero (weight m f)))
+weight-split m (suc n) f = rw add-suc (go (weight-split m n f) (f (m + n) ≟ 𝟎))
+  where
+    g : Series
+    g i = f (m + i)
+
+    go : weight (m + n) f ≡ weight m f + weight n g → Dec (f (m + n) ≡ 𝟎) → weight (suc (m + n)) f ≡ weight m f + weight (suc n) g
+    go ih (yes z) = weight-skip (m + n) f z ∙ ih ∙ ap (λ k. weight m f + k) (sym (weight-skip n g z))
+    go ih (no z) = omega (arith, weight-take (m + n) f z, weight-take n g z)
 
 pub weight-⊕ : (n : ℕ) (f g : Series) → weight n (λ p. f p ⊕ g p) ≤ weight n f + weight n g
 weight-⊕ zero f g = omega (arith, weight-none (λ p. f p ⊕ g p))

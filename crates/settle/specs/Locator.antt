@@ -59,7 +59,7 @@ W-is p h =
     let e : p + (255 - p) ≡ 255 = omega arith in
     inv-unique (X p) (pow α (255 - p)) (sym (pow-add α p (255 - p)) ∙ ap (pow α) e ∙ power-255)
 
-lead-is : (p : ℕ) → lead p ≡ X p
+pub lead-is : (p : ℕ) → lead p ≡ X p
 unfolding lead
 lead-is p = rw root-first
 
@@ -142,7 +142,7 @@ below-evaluator e = along e (λ n. below (weight n e) (evaluator n e))
 
 -- ---- the key equation
 
-root-power : (j p : ℕ) → pow (root j) p ≡ lead p ⊙ pow (X p) j
+pub root-power : (j p : ℕ) → pow (root j) p ≡ lead p ⊙ pow (X p) j
 unfolding lead
 root-power j p =
     ap (λ x. pow x p) (root-next j)

@@ -1,0 +1,115 @@
+// The test that every pattern is put to, whoever puts it forward.
+ghost use Prim.Native.Nat.{ℕ, suc, _+_, _≤_, _<_};
+ghost use mathlib.Core.Path.{_≡_};
+ghost use mathlib.Core.Logic.{ite};
+ghost use lib.ListN.{length};
+ghost use Rattle.field.specs.Field.{𝟎, _≟_, pow, val};
+ghost use Rattle.series.specs.Series.{K, _⊞_, _⊠_};
+ghost use Rattle.series.specs.Shift.{cut};
+ghost use Rattle.series.specs.Array.{values, bytes};
+ghost use Rattle.series.specs.Decide.{holds};
+ghost use Rattle.series.specs.Word.{weight};
+ghost use Rattle.polynomial.specs.Polynomial.{row as Row};
+ghost use Rattle.reed_solomon.specs.Definition.{root, syndrome};
+ghost use Rattle.settle.specs.Definition.{explains?};
+ghost use Rattle.subword.specs.Effect.{same?};
+use field::Exponent;
+use field::Gf;
+use kernel::wide;
+use polynomial::SYNDROMES;
+
+// Whether a pattern explains a row of syndromes, and how many symbols it changes.
+pub struct Tested {
+    pub explains: bool,
+    pub count: usize,
+}
+
+// How many symbols a pattern changes, and its first syndromes.
+struct Effect {
+    count: usize,
+    syndromes: [u8; SYNDROMES],
+}
+
+// The first m syndromes of a change y at position p are added.
+fn add_change(p: usize, y: Gf, m: usize, to: &mut [u8])
+    requires { ⌜ m ≤ length (now to) ⌝ }
+    ensures { λ _. ⌜ bytes (now (to .exit)) ≡ bytes (now (to .entry)) ⊞ K (val y) ⊠ cut m (λ j. pow (root j) p) ⌝ }
+{
+    let x = Exponent(p).power();
+    let row = kernel::product_row(x);
+    let first = x.product(y);
+    let mut v = first.0;
+    let mut j: usize = 0;
+    while j < m {
+        to[j] = to[j] ^ v;
+        v = row[wide(v)];
+        j = j + 1;
+    }
+}
+
+// The same, if it is a change, with the count of changes.
+fn count_change(count: usize, p: usize, y: Gf, m: usize, to: &mut [u8]) -> usize
+    requires { ⌜ (count < 255) × (m ≤ length (now to)) ⌝ }
+    ensures { λ r. ⌜ (r ≡ ite (val y ≟ 𝟎) count (suc count)) ×
+        (bytes (now (to .exit)) ≡ bytes (now (to .entry)) ⊞ K (val y) ⊠ cut m (λ j. pow (root j) p)) ⌝ }
+{
+    if y.is_zero() {
+        return count;
+    }
+    add_change(p, y, m, to);
+    count + 1
+}
+
+// Of the symbols below n, and m syndromes.
+fn effect_of(pattern: [Gf; 255], n: usize, m: usize) -> Effect
+    requires { ⌜ (n ≤ 255) × (m ≤ 48) ⌝ }
+    ensures { λ r. ⌜ (r .count ≡ weight n (values pattern)) × (bytes (r .syndromes) ≡ cut m (syndrome n (values pattern))) ⌝ }
+{
+    let mut syndromes = [0u8; SYNDROMES];
+    let mut count: usize = 0;
+    let mut p: usize = 0;
+    while p < n {
+        count = count_change(count, p, pattern[p], m, &mut syndromes);
+        p = p + 1;
+    }
+    Effect {
+        count: count,
+        syndromes: syndromes,
+    }
+}
+
+// Whether the first m entries are the same.
+fn agree(l: [u8; SYNDROMES], row: [Gf; SYNDROMES], m: usize) -> bool
+    requires { ⌜ m ≤ 48 ⌝ }
+    ensures { λ r. ⌜ r ≡ holds (same? m (bytes l) (Row row)) ⌝ }
+{
+    let mut i: usize = 0;
+    while i < m {
+        let g = row[i];
+        if l[i] != g.0 {
+            return false;
+        }
+        i = i + 1;
+    }
+    true
+}
+
+pub fn test(pattern: [Gf; 255], row: [Gf; SYNDROMES], n: usize, t: usize) -> Tested
+    requires { ⌜ (n ≤ 255) × (t ≤ 24) ⌝ }
+    ensures { λ r. ⌜ (r .count ≡ weight n (values pattern)) × (r .explains ≡ holds (explains? t n (Row row) (values pattern))) ⌝ }
+{
+    let m = t + t;
+    let effect = effect_of(pattern, n, m);
+    let syndromes = effect.syndromes;
+    let count = effect.count;
+    if t < count {
+        return Tested {
+            explains: false,
+            count: count,
+        };
+    }
+    Tested {
+        explains: agree(syndromes, row, m),
+        count: count,
+    }
+}
