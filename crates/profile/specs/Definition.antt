@@ -17,7 +17,8 @@ use lib.Dec.{leb, ltb, eqb}
 use lib.ListN.{length, getD}
 use Rattle.profile.specs.declared.Profile.{Profile}
 use Rattle.profile.specs.declared.Refusal.{Refusal}
-use Rattle.profile.specs.declared.Refusal.the-variants.{ProfileSize, Subwords, Nested, Capabilities, Length, InputSize, OutputSize, Subword}
+use Rattle.profile.specs.declared.Refusal.the-variants.{ProfileSize, Subwords, Nested, Capabilities, Length, InputSize, OutputSize}
+use Rattle.profile.specs.declared.Refusal.the-variants.{Unsettled, NotCodeword, Subword}
 use Rattle.profile.specs.declared.Parsed.{Parsed}
 use Rattle.profile.specs.declared.Parsed.the-variants.{Accepted, Refused}
 use Rattle.profile.specs.declared.Answer.{Answer}
@@ -97,6 +98,8 @@ number-of Capabilities = 4
 number-of Length = 5
 number-of InputSize = 6
 number-of OutputSize = 7
+number-of (Unsettled r) = 8
+number-of NotCodeword = 9
 number-of Subword = 10
 
 -- 0 says that every question was answered by yes

@@ -27,6 +27,9 @@ pub enum Refusal {
     Length,
     InputSize,
     OutputSize,
+    // Staged decoding ended after this stage, with subwords left unsettled.
+    Unsettled(u8),
+    NotCodeword,
     Subword,
 }
 
@@ -53,6 +56,8 @@ pub fn number(r: Refusal) -> u8
         Refusal::Length => 5,
         Refusal::InputSize => 6,
         Refusal::OutputSize => 7,
+        Refusal::Unsettled(_) => 8,
+        Refusal::NotCodeword => 9,
         Refusal::Subword => 10,
     }
 }
