@@ -6,7 +6,7 @@
 --                   change beyond position n - 1
 --
 -- Proved: each way out of `settle` keeps its promises, for a locator Λ said to have the length L: a length above t (long), a walk that met too few
--- roots (few), a pattern that does not explain (refused), and one that does (found).
+-- roots (few), a pattern that does not explain (refused), and one that does (found). The part of the numerator that is lent is the whole of it (prefix-is).
 use Prim.Native.Nat.{ℕ, _+_, _-_, _*_, _≤_, _<_}
 use mathlib.Core.Path.{_≡_, sym, ap, _∙_}
 use mathlib.Core.Logic.{if-neg, by-cases}
@@ -15,12 +15,14 @@ use mathlib.Core.List.{List}
 use mathlib.Core.Option.{Option, none, some}
 use native.Mathlib.Decide.{decLt}
 use native.Mathlib.Omega.{arith}
+use lib.ListN.{length as size, take}
 use Rattle.field.specs.declared.Gf.{Gf}
-use Rattle.field.specs.Field.{F, 𝟎}
+use Rattle.field.specs.Field.{F, 𝟎, of, of-zero}
 use Rattle.series.specs.Series.{Series, O, _⊠_}
 use Rattle.series.specs.Shift.{cut, cut-low, cut-high}
-use Rattle.series.specs.Degree.{below, below-O}
-use Rattle.series.specs.Array.{values}
+use Rattle.series.specs.Degree.{below, below-O, below-cut, below-cut-eq}
+use Rattle.series.specs.Array.{values, bytes}
+use Rattle.series.specs.Part.{read-prefix}
 use Rattle.series.specs.Decide.{holds, holds-yes, holds-no}
 use Rattle.series.specs.Word.{word, weight, weight-O, weight-split, zero-weight}
 use Rattle.iteration.specs.Run.{measure}
@@ -28,9 +30,9 @@ use Rattle.iteration.specs.Shortest.{length}
 use Rattle.settle.specs.Definition.{Explains, explains?, settle}
 use Rattle.settle.specs.Settle.{settle-one, settle-test}
 use Rattle.settle.specs.Solve.{explained}
-use Rattle.settle.specs.Candidate.{candidate, candidate-other, hits, hits-root, Multiple, candidate-is, roots-are, settle-long, settle-roots}
+use Rattle.settle.specs.Candidate.{candidate-other, hits, hits-root, Multiple, candidate-is, roots-are, settle-long, settle-roots}
+use Rattle.candidate.specs.Located.{Walked, walked-below}
 use Rattle.subword.specs.declared.Settled.{Settled}
-use Rattle.subword.specs.Located.{Walked, walked-below}
 
 unfoldable pub answer : ℕ → Settled → Option (List F)
 answer n r = cond (r .found) (some (word n (values (r .pattern)))) none
@@ -72,6 +74,9 @@ test-passed d e = by-cases d (λ a. a) (λ a. absurd (true≢false (sym e ∙ ho
 
 test-failed : {A : Type 0} (d : Dec A) → holds d ≡ false → ¬ A
 test-failed d e a = true≢false (sym (holds-yes d a) ∙ e)
+
+pub prefix-is : (m : ℕ) (l : List ℕ) (f : Series) → m ≤ size l → bytes l ≡ cut m f → bytes (take m l) ≡ cut m f
+prefix-is m l f h e = read-prefix of 0 of-zero m l h ∙ ap (cut m) e ∙ below-cut-eq m (cut m f) (below-cut m f)
 
 module _ (t n L : ℕ) (s Λ : Series) (r : Settled) (hn : n ≤ 255) where
   pub long : Nothing r → t < L → Kept t n L s Λ r

@@ -5,10 +5,9 @@
 -- Proved: the syndromes of a change y at position p are X p times y, and each next one X p times the one before (change-is, next-power); a loop over
 -- the positions goes on by effect-more and count-more; what the test of a pattern looks at (test-long, test-short).
 use Prim.Native.Nat.{ℕ, suc, _+_, _*_, _≤_, _<_}
-use mathlib.Core.Path.{_≡_, refl, sym, ap, ap₂, _∙_, fun-ext}
-use mathlib.Core.Logic.{_≢_, ite}
-use mathlib.Core.Bool.{true, false}
-use mathlib.Core.List.{List}
+use mathlib.Core.Path.{_≡_, sym, ap, ap₂, _∙_, fun-ext}
+use mathlib.Core.Logic.{ite}
+use mathlib.Core.Bool.{false}
 use native.Mathlib.Numerals.{add-one}
 use native.Mathlib.Omega.{arith}
 use lib.ListN.{replicate}
@@ -21,7 +20,7 @@ use Rattle.series.specs.Decide.{holds, holds-yes, holds-no, all?}
 use Rattle.series.specs.Word.{weight}
 use Rattle.reed_solomon.specs.Definition.{root, syndrome}
 use Rattle.reed_solomon.specs.Systematic.{syndrome-is}
-use Rattle.settle.specs.Definition.{Explains, explains?}
+use Rattle.settle.specs.Definition.{explains?}
 use Rattle.settle.specs.Locator.{X, lead-is, root-power}
 
 -- ---- one change

@@ -1,5 +1,3 @@
--- Answer names what `settle` promises; the others hold what its parts promise.
-pub mod Walk
-pub mod Located
+-- Answer names what `settle` promises; Effect holds what the test's parts promise.
 pub mod Effect
 pub mod Answer

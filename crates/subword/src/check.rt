@@ -1,5 +1,5 @@
 // The test that every pattern is put to, whoever puts it forward.
-ghost use Prim.Native.Nat.{ℕ, suc, _+_, _≤_, _<_};
+ghost use Prim.Native.Nat.{suc, _≤_, _<_};
 ghost use mathlib.Core.Path.{_≡_};
 ghost use mathlib.Core.Logic.{ite};
 ghost use lib.ListN.{length};

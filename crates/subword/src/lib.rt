@@ -1,7 +1,6 @@
-// Settling one subword: the pattern that a locator puts forward, and its test. What the promises speak of stands in settle's specs/Definition.antt,
-// and for the answer in specs/Answer.antt.
+// Settling one subword: the pattern that a locator puts forward, by `candidate`, and its test. What the promises speak of stands in settle's
+// specs/Definition.antt, and for the answer in specs/Answer.antt.
 mod check;
-mod locate;
 
 ghost use Prim.Native.Nat.{_*_, _≤_};
 ghost use mathlib.Core.Path.{_≡_};
@@ -49,8 +48,8 @@ pub fn settle(
     if t < length {
         return nothing();
     }
-    let numerator = locate::numerator(locator, row, length);
-    let located = locate::locate(locator, &numerator[..length], length, n);
+    let numerator = candidate::numerator(locator, row, length);
+    let located = candidate::locate(locator, &numerator[..length], length, n);
     if !located.whole {
         return nothing();
     }

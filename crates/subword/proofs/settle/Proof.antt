@@ -1,14 +1,11 @@
 -- Each way out keeps its promises.
-use Prim.Native.Nat.{_≤_}
 use mathlib.Core.Path.{refl, sym, _∙_}
 use native.Mathlib.Omega.{arith}
 use borrow.Author.Tests.{not-true, not-false}
-use lib.ListN.{length}
 use lib.Seq.{length-take-le}
 use Rattle.series.specs.Array.{values}
 use Rattle.series.specs.Word.{weight-le}
-use Rattle.subword.specs.Located.{prefix-is}
-use Rattle.subword.specs.Answer.{long, few, refused, found}
+use Rattle.subword.specs.Answer.{prefix-is, long, few, refused, found}
 use borrow.Author.Needs.{needs}
 use Rattle.subword.proofs.settle.Statement.{statement}
 use Rattle.subword.proofs.settle.Tie as tie

@@ -1,0 +1,17 @@
+-- Capabilities rise to t_v, which is at most 24.
+use native.Mathlib.Omega.{arith}
+use Rattle.profile.specs.Valid.{capability-mono}
+use borrow.Author.Needs.{needs}
+use Rattle.attempt.proofs.correctable.Statement.{statement}
+use Rattle.attempt.proofs.correctable.Tie as tie
+
+capability-requires : tie.Need-capability-requires
+capability-requires c κs = search needs
+
+returns : tie.Need-returns
+returns c =
+    let (ok, h) = c .before .pre in
+    (c .capability .ensures, omega (arith, c .capability .ensures, ok .most, capability-mono _ ok _ _ h (omega arith)))
+
+pub correctable-spec : {M : Type 1} → statement M
+correctable-spec = tie.close (tie.spec capability-requires returns)

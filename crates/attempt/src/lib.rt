@@ -1,0 +1,93 @@
+// One stage of one subword that is not settled yet. What the promises speak of stands in specs/Definition.antt.
+ghost use Prim.Native.Nat.{_*_, _≤_};
+ghost use mathlib.Core.Path.{_≡_};
+ghost use Rattle.series.specs.Decide.{holds};
+ghost use Rattle.polynomial.specs.Polynomial.{row as Row};
+ghost use Rattle.profile.specs.Definition.{capability};
+ghost use Rattle.profile.specs.Valid.{Valid};
+ghost use Rattle.settle.specs.Definition.{settle};
+ghost use Rattle.staged.specs.Definition.{rounds-of};
+ghost use Rattle.continuation.specs.Definition.{Ended};
+ghost use Rattle.subword.specs.Answer.{answer, Sound};
+ghost use Rattle.attempt.specs.Definition.{known as Known, Ready, Tried};
+ghost use Rattle.attempt.specs.Zero.{zero?};
+use field::Gf;
+use polynomial::SYNDROMES;
+use profile::Profile;
+use rounds::Form;
+use rounds::Solver;
+use subword::Settled;
+
+// The solver after the stage, kept for the next one, and what it found.
+pub struct Attempted {
+    pub solver: Solver,
+    pub settled: Settled,
+}
+
+// The most errors that stage r corrects: t_r.
+fn correctable(p: Profile, r: u8) -> u8
+    requires { ⌜ Valid p × (r ≤ p .nested) ⌝ }
+    ensures { λ t. ⌜ (t ≡ capability p r) × (t ≤ 24) ⌝ }
+{
+    p.capability(r)
+}
+
+// How many syndromes stage r looks at: 2 t_r.
+fn seen(p: Profile, r: u8) -> u8
+    requires { ⌜ Valid p × (r ≤ p .nested) ⌝ }
+    ensures { λ k. ⌜ k ≡ 2 * capability p r ⌝ }
+{
+    2 * correctable(p, r)
+}
+
+// How many the stages before it look at.
+fn known(p: Profile, r: u8) -> u8
+    requires { ⌜ Valid p × (r ≤ p .nested) ⌝ }
+    ensures { λ k. ⌜ k ≡ Known p r ⌝ }
+{
+    if r == 0 {
+        return 0;
+    }
+    seen(p, r - 1)
+}
+
+// What a solver has found is tried: of the row the first 2t syndromes count, n is the subword's length.
+fn tried(s: Solver, row: [Gf; SYNDROMES], n: usize, t: usize) -> Settled
+    requires { ⌜ (n ≤ 255) × (t ≤ 24) ⌝ }
+    ensures { λ a. ⌜ Tried t n (Row row) s a ⌝ }
+{
+    let locator = continuation::locator(s);
+    let length = s.length();
+    subword::settle(locator, length as usize, row, n, t)
+}
+
+// Stage r of a subword that is not settled: the solver goes on from what it kept, and its locator is tried.
+pub fn attempt(p: Profile, r: u8, s: Solver, row: [Gf; SYNDROMES]) -> Attempted
+    requires { ⌜ Valid p × (r ≤ p .nested) ⌝ }
+    ensures sound { λ a. ⌜ Sound (capability p r) (p .length) (Row row) (a .settled) ⌝ }
+    ensures settled { λ a. ⌜ ((f : Form) → Ready p f r (Row row) s → answer (p .length) (a .settled) ≡ settle (capability p r) (p .length) (Row row)) ⌝ }
+    ensures solver { λ a. ⌜ ((f : Form) → Ready p f r (Row row) s → Ended f (rounds-of p (Row row) r) (a .solver)) ⌝ }
+{
+    let n = p.length as usize;
+    let t = correctable(p, r) as usize;
+    let next = continuation::advance(s, known(p, r), seen(p, r), row);
+    Attempted {
+        solver: next,
+        settled: tried(next, row, n, t),
+    }
+}
+
+// Whether a row of syndromes is zero: the pattern of zeros settles such a subword, and no solver is needed.
+pub fn is_zero(row: [Gf; SYNDROMES]) -> bool
+    ensures { λ r. ⌜ r ≡ holds (zero? row) ⌝ }
+{
+    let mut i: usize = 0;
+    while i < SYNDROMES {
+        let g = row[i];
+        if !g.is_zero() {
+            return false;
+        }
+        i = i + 1;
+    }
+    true
+}

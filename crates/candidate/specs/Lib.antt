@@ -1,0 +1,3 @@
+-- Located names what `locate` promises; Walk holds what its parts promise.
+pub mod Walk
+pub mod Located

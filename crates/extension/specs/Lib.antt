@@ -1,0 +1,5 @@
+-- Definition is what the promises speak of; the others prove them.
+pub mod Definition
+pub mod Count
+pub mod Lagrange
+pub mod Rows
