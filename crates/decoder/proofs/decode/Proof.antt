@@ -1,0 +1,64 @@
+-- Refused, or read.
+use mathlib.Core.Path.{sym, ap, _∙_}
+use native.Mathlib.Omega.{arith}
+use Rattle.decoder.specs.Definition.{judged}
+use Rattle.decoder.specs.Laws.{passed}
+use borrow.Author.Needs.{needs}
+use Rattle.decoder.proofs.decode.Statement.{statement}
+use Rattle.decoder.proofs.decode.Tie as tie
+
+questions-requires : tie.Need-questions-requires
+questions-requires c κs = search needs
+
+enum-known-p : tie.Need-enum-known-p
+enum-known-p c = search needs
+
+read-requires : tie.Need-read-requires
+read-requires c κs =
+    let told = c .before .before in
+    let given = c .before .before .before .before .before .before .before .before in
+    let yes = sym (c .before .before .before .before .questions .ensures) ∙ told .p .given .1 in
+    let (ok, input, output) = passed (given .args .profile .now) _ _ _ yes (omega arith) in
+    (record { valid = ok; size = input }, output ∙ sym input)
+
+enum-known-q : tie.Need-enum-known-q
+enum-known-q c = search needs
+
+refuse-requires : tie.Need-refuse-requires
+refuse-requires c κs = search needs
+
+same-length : tie.Need-same-length
+same-length c = search needs
+
+returns : tie.Need-returns
+returns c =
+    let told = c .before .before .before .before .before in
+    let given = c .before .before .before .before .before .before .before .before .before .before .before in
+    let is = ap (λ a. judged a (given .args .input .now)) (sym (told .before .before .questions .ensures) ∙ told .p .given .1) in
+    let gives = c .before .before .read .ensures in
+    rw is (gives .answer, (gives .block, gives .report))
+
+same-length-2 : tie.Need-same-length-2
+same-length-2 c = search needs
+
+returns-2 : tie.Need-returns-2
+returns-2 c =
+    let told = c .before .before .before .before .before in
+    let given = c .before .before .before .before .before .before .before .before .before .before .before in
+    let is = ap (λ a. judged a (given .args .input .now)) (sym (told .before .before .questions .ensures) ∙ told .q .given .1) in
+    let refuse = c .before .before .refuse in
+    rw is (refuse .ensures)
+
+pub decode-spec : {M : Type 1} → statement M
+decode-spec =
+    tie.close
+    (tie.spec
+    questions-requires
+    enum-known-p
+    read-requires
+    enum-known-q
+    refuse-requires
+    same-length
+    returns
+    same-length-2
+    returns-2)

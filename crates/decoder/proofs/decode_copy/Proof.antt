@@ -1,0 +1,37 @@
+use native.Mathlib.Omega.{arith}
+use borrow.Author.Needs.{needs}
+use Rattle.decoder.proofs.decode_copy.Statement.{statement}
+use Rattle.decoder.proofs.decode_copy.Tie as tie
+
+copy-requires : tie.Need-copy-requires
+copy-requires c κs = c .before .before .before .before .pre .1
+
+run-requires : tie.Need-run-requires
+run-requires c κs =
+    let given = c .before .before .before .before .before .before .before .before in
+    rw (c .before .before .before .copy .ensures) (given .pre .0)
+
+conclude-requires : tie.Need-conclude-requires
+conclude-requires c κs =
+    let given = c .before .before .before .before .before .before .before .before .before .before .before .before .before in
+    let same = c .before .before .before .block2 .given in
+    let first = c .before .before .before .before .before .before .before .block .given in
+    (record { valid = given .pre .0 .valid; size = omega (arith, same, first, given .pre .0 .size, given .pre .1) }, omega (arith, same, first, given .pre .1, given .pre .2))
+
+same-length : tie.Need-same-length
+same-length c = search needs
+
+same-length-2 : tie.Need-same-length-2
+same-length-2 c = search needs
+
+returns : tie.Need-returns
+returns c =
+    let given = c .before .before .before .before .before .before .before .before .before .before .before .before .before .before .before .before in
+    let run = c .before .before .before .before .before .before .before .run in
+    let copied = c .before .before .before .before .before .before .before .before .before .before .before .copy .ensures in
+    c .before .before .conclude .ensures _ (rw copied at (run .ensures))
+
+pub decode-copy-spec : {M : Type 1} → statement M
+decode-copy-spec =
+    tie.close
+    (tie.spec copy-requires run-requires conclude-requires same-length same-length-2 returns)

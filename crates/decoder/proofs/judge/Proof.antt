@@ -1,0 +1,37 @@
+use native.Mathlib.Omega.{arith}
+use borrow.Author.Tests.{eq-eqb, ne-eqb}
+use Rattle.profile.specs.Definition.{block-size}
+use borrow.Author.Needs.{needs}
+use Rattle.decoder.proofs.judge.Statement.{statement}
+use Rattle.decoder.proofs.judge.Tie as tie
+
+block-size-requires : tie.Need-block-size-requires
+block-size-requires c κs = search needs
+
+returns : tie.Need-returns
+returns c =
+    let given = c .before .before .args in
+    rw (ne-eqb (given .input) (block-size (given .p)) (λ e. omega (arith, c .before .block-size .ensures)))
+
+block-size-requires-2 : tie.Need-block-size-requires-2
+block-size-requires-2 c κs = search needs
+
+returns-2 : tie.Need-returns-2
+returns-2 c =
+    let given = c .before .before .before .before .args in
+    rw (
+      eq-eqb (given .input) (block-size (given .p)) (omega (arith, c .before .before .before .block-size .ensures, c .before .before .if1 .left)),
+      ne-eqb (given .output) (block-size (given .p)) (λ e. omega (arith, c .before .block-size2 .ensures)),
+    )
+
+returns-3 : tie.Need-returns-3
+returns-3 c =
+    let given = c .before .before .before .before .args in
+    rw (
+      eq-eqb (given .input) (block-size (given .p)) (omega (arith, c .before .before .before .block-size .ensures, c .before .before .if1 .left)),
+      eq-eqb (given .output) (block-size (given .p)) (omega (arith, c .before .block-size2 .ensures)),
+    )
+
+pub judge-spec : {M : Type 1} → statement M
+judge-spec =
+    tie.close (tie.spec block-size-requires returns block-size-requires-2 returns-2 returns-3)

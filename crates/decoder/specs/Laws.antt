@@ -1,0 +1,110 @@
+-- From the code to the definition.
+--
+-- Proved: a copy goes on byte by byte (copied-more); the changed symbols are counted line by line (changed-none, changed-more); what the questions let
+-- pass (passed); each end of decoding gives what the definition says (gives-unsettled, gives-foreign, gives-read).
+use Prim.Native.Nat.{ℕ, suc, _+_, _≤_, _<_}
+use mathlib.Core.Path.{_≡_, refl, sym, ap, ap₂, _∙_}
+use mathlib.Core.Bool.{true, false}
+use mathlib.Core.List.{List, [], _∷_, map}
+use native.Mathlib.Decide.{ℕ-discrete}
+use native.Mathlib.Numerals.{add-one}
+use native.Mathlib.Omega.{arith}
+use lib.Dec.{eqb}
+use lib.ListN.{length, getD, set, length-map}
+use lib.Seq.{getD-set-same, getD-set-other}
+use borrow.Author.Tests.{eqb-true}
+use Rattle.field.specs.Field.{of, byte, byte-of}
+use Rattle.series.specs.Series.{Series}
+use Rattle.series.specs.Array.{bytes, bytes-entry}
+use Rattle.series.specs.Decide.{holds}
+use Rattle.series.specs.Word.{word, word-entry}
+use Rattle.profile.specs.declared.Profile.{Profile}
+use Rattle.profile.specs.declared.Refusal.{Refusal}
+use Rattle.profile.specs.declared.Refusal.the-variants.{InputSize, OutputSize, Unsettled, NotCodeword}
+use Rattle.profile.specs.declared.Parsed.the-variants.{Accepted}
+use Rattle.profile.specs.declared.Answer.the-variants as answer
+use Rattle.profile.specs.Definition.{profile-of, ask, block-size}
+use Rattle.profile.specs.Laws.{ask-yes}
+use Rattle.profile.specs.Valid.{Valid, profile-read, profile-valid}
+use Rattle.code.specs.Encoding.{codeword?}
+use Rattle.rounds.specs.declared.form.Form.{Form}
+use Rattle.staged.specs.Definition.{total, count-of, settled, report, decode}
+use Rattle.staged.specs.Count.{total-cong}
+use Rattle.staged.specs.Clean.{untouched}
+use Rattle.stages.specs.declared.Line.{Line}
+use Rattle.stages.specs.declared.Ending.{Ending}
+use Rattle.stages.specs.View.{verdict-of, says, Reached}
+use Rattle.stages.specs.Lines.{has, says-at}
+use Rattle.decoder.specs.declared.Reading.{Reading}
+use Rattle.decoder.specs.Definition.{questioned, concluded, refused, Tells, Gives}
+
+-- ---- copies
+
+pub copied-more : (to from : List ℕ) (i : ℕ) → i < length to → ((k : ℕ) → k < i → getD to k 0 ≡ getD from k 0)
+    → (k : ℕ) → k < i + 1 → getD (set to i (getD from i 0)) k 0 ≡ getD from k 0
+copied-more to from i h before k l = go (ℕ-discrete k i)
+  where
+    go : Dec (k ≡ i) → getD (set to i (getD from i 0)) k 0 ≡ getD from k 0
+    go (yes e) = rw e (getD-set-same to i (getD from i 0) 0 h)
+    go (no n) = getD-set-other to i k (getD from i 0) 0 n ∙ before k (omega (arith, n))
+
+-- ---- counts
+
+pub changed-none : (lines : List Line) → 0 ≡ total 0 (λ i. count-of (says lines i))
+unfolding total
+changed-none lines = refl
+
+pub changed-more : (lines : List Line) (sum i n : ℕ) (d : Line) → i < length lines → sum ≡ total i (λ i. count-of (says lines i))
+    → n ≡ count-of (verdict-of (getD lines i d .verdict)) → sum + n ≡ total (i + 1) (λ i. count-of (says lines i))
+unfolding total
+changed-more lines sum i n d h e q = rw (add-one i, e, q, says-at lines i (getD lines i d) (has lines i d h))
+
+-- ---- questions
+
+-- n is a byte
+pub passed : (b : List ℕ) (d o : ℕ) (p : Profile) → questioned b d o ≡ Accepted p → p .length ≤ 255 → Valid p × (d ≡ block-size p) × (o ≡ block-size p)
+passed b d o p e small =
+    let (e1, output) = ask-yes (λ p. eqb o (block-size p)) OutputSize (ask (λ p. eqb d (block-size p)) InputSize (profile-of b)) p e in
+    let (e2, input) = ask-yes (λ p. eqb d (block-size p)) InputSize (profile-of b) p e1 in
+    (profile-valid b p e2 (rw (ap (λ q. q .length) (profile-read b p e2)) small), eqb-true d (block-size p) input, eqb-true o (block-size p) output)
+
+-- ---- ends
+
+pub gives-refused : (f : Form) (q : Refusal) (o e : List ℕ) (a : Reading) → a .answer ≡ answer.Refused q → e ≡ o → Tells f untouched (a .report)
+    → Gives f (refused q) o e a
+gives-refused f q o e a says same tells = record { answer = says; block = same; report = tells }
+
+module _ (p : Profile) (f : Form) (y b : Series) (e : Ending) (r : Reached p f y b e) where
+  pub unsettled-is : e .settled ≡ false → concluded p (decode p y) ≡ refused (Unsettled (e .stage))
+  unfolding decode
+  unsettled-is h = rw (r .1 h)
+
+  pub foreign-is : e .settled ≡ true → holds (codeword? p b) ≡ false → concluded p (decode p y) ≡ refused NotCodeword
+  unfolding decode
+  foreign-is h wrong = let (g, is, block, _) = r .0 h in rw (is, block, wrong)
+
+bytes-back : (s : List ℕ) → ((i : ℕ) → getD s i 0 < 256) → map byte (map of s) ≡ s
+bytes-back [] h = refl
+bytes-back (x ∷ s) h = ap₂ _∷_ (byte-of x (h 0)) (bytes-back s (λ i. h (suc i)))
+
+-- the bytes of a block of n bytes
+word-bytes : (n : ℕ) (s : List ℕ) → length s ≡ n → ((i : ℕ) → getD s i 0 < 256) → map byte (word n (bytes s)) ≡ s
+word-bytes n s l h = ap (map byte) (ap (word n) (bytes-entry s) ∙ word-entry n (map of s) (length-map s of ∙ l)) ∙ bytes-back s h
+
+pub gives-read : (p : Profile) (f : Form) (y : Series) (b o c : List ℕ) (e : Ending) (a : Reading) → c ≡ b → length b ≡ block-size p → ((i : ℕ) → getD b i 0 < 256)
+    → Reached p f y (bytes b) e → e .settled ≡ true → holds (codeword? p (bytes b)) ≡ true → a .answer ≡ answer.Accepted → a .report .lines ≡ e .lines
+    → a .report .changed ≡ total (p .subwords) (λ i. count-of (says (e .lines) i)) → a .report .last ≡ e .stage → Gives f (concluded p (decode p y)) o c a
+unfolding decode report
+gives-read p f y b o c e a copied long small r h code says lines changed last =
+    let (g, is, block, shows) = r .0 h in
+    rw (is, block, code) (record {
+      answer = says;
+      block = copied ∙ sym (word-bytes (block-size p) b long small);
+      report = rw lines (record {
+        long = shows .long;
+        lines = shows .says;
+        changed = changed ∙ total-cong (p .subwords) _ _ (λ i m. ap count-of (shows .says i));
+        last = last;
+        solvers = shows .solvers;
+      });
+    })

@@ -1,0 +1,60 @@
+use Prim.Native.Nat.{suc, _*_}
+use mathlib.Core.Path.{ap, ap₂, _∙_}
+use native.Mathlib.Numerals.{add-one}
+use native.Mathlib.Omega.{arith}
+use Rattle.profile.specs.Definition.{capability}
+use Rattle.profile.specs.Valid.{capability-mono}
+use Rattle.staged.specs.Definition.{extend}
+use Rattle.stages.specs.Walk.{extended}
+use borrow.Author.Needs.{needs}
+use Rattle.stages.proofs.round.Statement.{statement}
+use Rattle.stages.proofs.round.Tie as tie
+
+capability-requires : tie.Need-capability-requires
+capability-requires c κs = search needs
+
+cast-from : tie.Need-cast-from
+cast-from c = search needs
+
+mul-from : tie.Need-mul-from
+mul-from c = search needs
+
+add-capability : tie.Need-add-capability
+add-capability c = search needs
+
+capability-requires-2 : tie.Need-capability-requires-2
+capability-requires-2 c κs = search needs
+
+cast-to : tie.Need-cast-to
+cast-to c = search needs
+
+mul-to : tie.Need-mul-to
+mul-to c = search needs
+
+extend-requires : tie.Need-extend-requires
+extend-requires c κs =
+    let given = c .before .before .before in
+    let ok = given .pre .0 .valid in
+    (given .pre .0, omega (arith, c .capability2 .ensures ∙ ap (capability (given .args .p)) (add-one (given .args .r)), ok .most, capability-mono (given .args .p) ok (suc (given .args .r)) (given .args .p .nested) (given .pre .1) (omega arith)))
+
+returns : tie.Need-returns
+returns c =
+    let given = c .before .before .before .before in
+    let from = ap (λ t. 2 * t) (c .before .before .capability .ensures) in
+    let to = ap (λ t. 2 * t) (c .before .capability2 .ensures ∙ ap (capability (given .args .p)) (add-one (given .args .r))) in
+    λ lines. extended (given .args .p) (given .args .pending) (omega (arith, given .pre .0 .valid .subwords)) _ lines (given .args .r) _ _
+    (λ g seen. c .extend .ensures g seen ∙ ap₂ (λ a b. extend (given .args .p) a b g .row) from to)
+
+pub round-spec : {M : Type 1} → statement M
+round-spec =
+    tie.close
+    (tie.spec
+    capability-requires
+    cast-from
+    mul-from
+    add-capability
+    capability-requires-2
+    cast-to
+    mul-to
+    extend-requires
+    returns)

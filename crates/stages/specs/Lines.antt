@@ -1,0 +1,103 @@
+-- Lines in an array, and the progress that they show.
+--
+-- Proved: what stands at a place (has, has-set, has-other); eight lines at their start (started); what lines say and show after a store (says-set,
+-- shown-set).
+use Prim.Native.Nat.{ℕ, zero, suc, _≤_, _<_}
+use mathlib.Core.Path.{_≡_, refl, sym, ap, _∙_, fun-ext, subst}
+use mathlib.Core.Logic.{_≢_}
+use mathlib.Core.Bool.{Bool, true, cond}
+use mathlib.Core.List.{List, [], _∷_, map}
+use mathlib.Core.Option.{none, some}
+use native.Mathlib.Decide.{decLt, ℕ-discrete}
+use native.Mathlib.Omega.{arith}
+use lib.ListN.{length, getD, set, replicate, length-set, length-map, length-replicate, getD-replicate, List·getD-map, List·getD-eq-default}
+use lib.Seq.{getD-set-same, getD-set-other}
+use Rattle.rounds.specs.declared.form.Form.{Form}
+use Rattle.rounds.specs.declared.form.Solver.{Solver}
+use Rattle.rounds.specs.Solver.{form-of, Is}
+use Rattle.continuation.specs.Definition.{Ended, ended-start}
+use Rattle.staged.specs.Definition as staged
+use Rattle.staged.specs.Definition.{put}
+use Rattle.staged.specs.Stage.{put-same, put-other}
+use Rattle.stages.specs.declared.Verdict.the-variants.{Clean}
+use Rattle.stages.specs.declared.Line.{Line}
+use Rattle.stages.specs.View.{verdict-of, says, Has, shown, Started}
+
+-- ---- places of a list
+
+-- where something stands, what would stand past the end does not matter
+pub any-default : {A : Type 0} (l : List A) (i : ℕ) (d e : A) → i < length l → getD l i d ≡ getD l i e
+any-default [] i d e h = absurd (omega arith)
+any-default (x ∷ l) zero d e h = refl
+any-default (x ∷ l) (suc i) d e h = any-default l i d e (omega arith)
+
+pub has : (lines : List Line) (i : ℕ) (d : Line) → i < length lines → Has lines i (getD lines i d)
+has lines i d h = (h, λ e. any-default lines i e d h)
+
+pub has-same : (lines : List Line) (i : ℕ) (l x : Line) → i < length lines → Has (set lines i l) i x → x ≡ l
+has-same lines i l x h (_, is) = sym (is l) ∙ getD-set-same lines i l l h
+
+pub has-other : (lines : List Line) (i k : ℕ) (l x : Line) → k ≢ i → Has (set lines i l) k x → Has lines k x
+has-other lines i k l x n (h, is) = (omega (arith, length-set lines i l), λ d. sym (getD-set-other lines i k l d n) ∙ is d)
+
+-- ---- what lines say
+
+pub says-at : (lines : List Line) (i : ℕ) (l : Line) → Has lines i l → says lines i ≡ verdict-of (l .verdict)
+unfolding says
+says-at lines i l (h, is) =
+    any-default (map (λ l. verdict-of (l .verdict)) lines) i staged.clean (verdict-of (l .verdict)) (omega (arith, length-map lines (λ l. verdict-of (l .verdict))))
+    ∙ List·getD-map (λ l. verdict-of (l .verdict)) lines i l
+    ∙ ap (λ (l : Line). verdict-of (l .verdict)) (is l)
+
+says-past : (lines : List Line) (i : ℕ) → length lines ≤ i → says lines i ≡ staged.clean
+unfolding says
+says-past lines i h =
+    List·getD-eq-default (map (λ l. verdict-of (l .verdict)) lines) staged.clean (omega (arith, length-map lines (λ l. verdict-of (l .verdict))))
+
+pub started : (f : Form) (s : Solver) → Is f 0 s (form-of f .start) → Started f (replicate 8 (record { verdict = Clean; solver = s }))
+started f s h = record {
+  long = length-replicate 8 l;
+  solvers = λ i x (m, is). subst (λ (x : Line). Ended f [] (x .solver)) (sym (getD-replicate 8 i l x (omega (arith, m, length-replicate 8 l))) ∙ is x) (ended-start f s h);
+  says = λ i. all i (decLt i 8);
+}
+  where
+    l : Line
+    l = record { verdict = Clean; solver = s }
+
+    all : (i : ℕ) → Dec (i < 8) → says (replicate 8 l) i ≡ staged.clean
+    all i (yes h) = says-at (replicate 8 l) i l (omega (arith, length-replicate 8 l), λ d. getD-replicate 8 i l d h)
+    all i (no h) = says-past (replicate 8 l) i (omega (arith, length-replicate 8 l))
+
+-- ---- after a store
+
+module _ (lines : List Line) (k : ℕ) (l : Line) (h : k < length lines) where
+  pub says-same : says (set lines k l) k ≡ verdict-of (l .verdict)
+  says-same = says-at (set lines k l) k l (omega (arith, length-set lines k l), λ d. getD-set-same lines k l d h)
+
+  pub says-other : (i : ℕ) → i ≢ k → says (set lines k l) i ≡ says lines i
+  says-other i n = go (decLt i (length lines))
+    where
+      go : Dec (i < length lines) → says (set lines k l) i ≡ says lines i
+      go (yes m) =
+          says-at (set lines k l) i (getD lines i l) (omega (arith, length-set lines k l), λ d. getD-set-other lines k i l d n ∙ any-default lines i d l m)
+          ∙ sym (says-at lines i (getD lines i l) (has lines i l m))
+      go (no m) = says-past (set lines k l) i (omega (arith, length-set lines k l)) ∙ sym (says-past lines i (omega arith))
+
+  module _ (pending : List Bool) (x : Bool) (g : k < length pending) where
+    pub shown-set : shown (set pending k x) (set lines k l) ≡ put k (cond x none (some (verdict-of (l .verdict)))) (shown pending lines)
+    unfolding shown
+    shown-set = fun-ext (λ i. go i (ℕ-discrete i k))
+      where
+        go : (i : ℕ) → Dec (i ≡ k)
+            → cond (getD (set pending k x) i true) none (some (says (set lines k l) i)) ≡ put k (cond x none (some (verdict-of (l .verdict)))) (shown pending lines) i
+        go i (yes e) =
+            rw (e, getD-set-same pending k x true g, says-same) (sym (put-same k _ (shown pending lines)))
+        go i (no n) =
+            rw (getD-set-other pending k i x true n, says-other i n) (sym (put-other k _ (shown pending lines) i n))
+
+pub put-stay : {A : Type 0} (k : ℕ) (x : A) (f : ℕ → A) → f k ≡ x → put k x f ≡ f
+put-stay k x f e = fun-ext (λ i. go i (ℕ-discrete i k))
+  where
+    go : (i : ℕ) → Dec (i ≡ k) → put k x f i ≡ f i
+    go i (yes q) = rw q (put-same k x f ∙ sym e)
+    go i (no n) = put-other k x f i n

@@ -1,0 +1,128 @@
+-- How the code's values show staged decoding (Definition of staged).
+--
+--   verdict-of v              what a verdict says
+--   says lines i              what line i says; clean where there is no such line
+--   view b pending lines t    the progress that a block, flags, lines and a table of syndromes show
+--   waiting p pending         how many subwords are pending
+--   Has lines i l             the line l stands at i
+--   so-far p i s S o          the rounds that a solver went through, o being what its subword's line is and s the next stage if it has none
+--   Kept p f next g lines     the solvers of the lines are in the form f at the end of these rounds; the lines that are no subword's say clean
+--   Before p f r g lines      so it is before stage r, and the rows are zero past that stage's syndromes
+--   Took p f r i S w b c q    what stage r makes of subword i that was pending, w being the pattern that settles it, if any
+--   Started f lines           eight lines at their start
+--   Came p f r g b q t        after stage r of the progress g
+--   Extended p r b q t u      u is the table t after round r + 1
+--   Reached p f y b e         how decoding ended
+use Prim.Native.Nat.{ℕ, suc, _*_, _≤_, _<_}
+use mathlib.Core.Path.{_≡_}
+use mathlib.Core.Logic.{_≢_}
+use mathlib.Core.Bool.{Bool, true, false, cond}
+use mathlib.Core.List.{List, [], map}
+use mathlib.Core.Option.{Option, none, some}
+use lib.Dec.{ltb}
+use lib.ListN.{length, getD}
+use Rattle.field.specs.declared.Gf.{Gf}
+use Rattle.field.specs.Field.{F}
+use Rattle.series.specs.Series.{Series}
+use Rattle.series.specs.Degree.{below}
+use Rattle.series.specs.Array.{bytes, values}
+use Rattle.series.specs.Word.{entry, weight}
+use Rattle.profile.specs.declared.Profile.{Profile}
+use Rattle.profile.specs.Definition.{capability}
+use Rattle.code.specs.Check.{table}
+use Rattle.rounds.specs.declared.form.Form.{Form}
+use Rattle.continuation.specs.Definition.{Ended}
+use Rattle.staged.specs.Definition as staged
+use Rattle.staged.specs.Definition.{Progress, count, add, line-of, line-at, line-rounds, rounds-of, stage, round, start, stages, settled, stopped}
+use Rattle.stages.specs.declared.Verdict.{Verdict}
+use Rattle.stages.specs.declared.Verdict.the-variants.{Clean, Corrected}
+use Rattle.stages.specs.declared.Line.{Line}
+use Rattle.stages.specs.declared.Turned.{Turned}
+use Rattle.stages.specs.declared.Staged.{Staged}
+use Rattle.stages.specs.declared.Ending.{Ending}
+use Rattle.attempt.specs.declared.Attempted.{Attempted}
+use Rattle.attempt.specs.Definition.{earlier}
+use Rattle.extension.specs.Definition.{flag}
+
+-- ---- lines
+
+abbrev pub verdict-of : Verdict → staged.Line
+verdict-of Clean = staged.clean
+verdict-of (Corrected k r) = staged.corrected k r
+
+unfoldable pub says : List Line → ℕ → staged.Line
+says lines i = getD (map (λ l. verdict-of (l .verdict)) lines) i staged.clean
+
+abbrev pub Has : List Line → ℕ → Line → Type 0
+Has lines i l = (i < length lines) × ((d : Line) → getD lines i d ≡ l)
+
+-- ---- progress
+
+unfoldable pub shown : List Bool → List Line → ℕ → Option staged.Line
+shown pending lines i = cond (getD pending i true) none (some (says lines i))
+
+unfoldable pub view : List ℕ → List Bool → List Line → List (List Gf) → Progress
+view b pending lines t = record { block = bytes b; line = shown pending lines; row = table t }
+
+abbrev pub waiting : Profile → List Bool → ℕ
+waiting p pending = count (p .subwords) (flag pending)
+
+-- ---- solvers
+
+abbrev pub so-far : Profile → (i s : ℕ) → Series → Option staged.Line → List (List F)
+so-far p i s S none = cond (ltb i (p .subwords)) (earlier p S s) []
+so-far p i s S (some l) = line-rounds p S l
+
+pub record Kept (p : Profile) (f : Form) (next : ℕ → ℕ) (g : Progress) (lines : List Line) : Type 0 where
+  pub solvers : (i : ℕ) (l : Line) → Has lines i l → Ended f (so-far p i (next i) (g .row i) (g .line i)) (l .solver)
+  pub rest : (i : ℕ) → p .subwords ≤ i → (g .line i ≡ none) × (says lines i ≡ staged.clean)
+
+pub record Before (p : Profile) (f : Form) (r : ℕ) (g : Progress) (lines : List Line) : Type 0 where
+  pub rows : (i : ℕ) → i < p .subwords → below (2 * capability p r) (g .row i)
+  pub kept : Kept p f (λ _. r) g lines
+
+-- ---- a stage
+
+-- what an attempt has brought: with no change at stage 0 there would have been no attempt
+pub record Offered (p : Profile) (f : Form) (r : ℕ) (S : Series) (a : Attempted) : Type 0 where
+  pub count : a .settled .count ≡ weight (p .length) (values (a .settled .pattern))
+  pub solver : Ended f (rounds-of p S r) (a .solver)
+  pub some : a .settled .found ≡ true → r ≡ 0 → a .settled .count ≢ 0
+
+abbrev pub Stayed : Line → (b c : List ℕ) → Turned → Type 0
+Stayed line b c q = (q .pending ≡ false) × (q .line ≡ line) × (c ≡ b)
+
+-- of one subword; b and c are the block before and after
+abbrev pub Took : Profile → Form → (r i : ℕ) → Series → Option (List F) → (b c : Series) → Turned → Type 0
+Took p f r i S none b c q = (q .pending ≡ true) × (c ≡ b) × Ended f (rounds-of p S r) (q .line .solver)
+Took p f r i S (some w) b c q =
+    (q .pending ≡ false) × (c ≡ add (p .length) i (entry w) b) × (verdict-of (q .line .verdict) ≡ line-of r (weight (p .length) (entry w)))
+    × Ended f (line-rounds p S (line-of r (weight (p .length) (entry w)))) (q .line .solver)
+
+-- of all of them, with the flags and lines q and the table t
+pub record Came (p : Profile) (f : Form) (r : ℕ) (g : Progress) (b : List ℕ) (q : Staged) (t : List (List Gf)) : Type 0 where
+  pub is : view b (q .pending) (q .lines) t ≡ stage p r g
+  pub kept : Kept p f (λ _. suc r) (stage p r g) (q .lines)
+
+-- ---- rounds
+
+pub record Started (f : Form) (lines : List Line) : Type 0 where
+  pub long : length lines ≡ 8
+  pub solvers : (i : ℕ) (l : Line) → Has lines i l → Ended f [] (l .solver)
+  pub says : (i : ℕ) → says lines i ≡ staged.clean
+
+abbrev pub Extended : Profile → ℕ → List ℕ → List Bool → (t u : List (List Gf)) → Type 0
+Extended p r b pending t u = (lines : List Line) → view b pending lines u ≡ round p r (view b pending lines t)
+
+-- ---- the end
+
+-- the lines, beside the progress g
+pub record Shows (p : Profile) (f : Form) (g : Progress) (lines : List Line) : Type 0 where
+  pub long : length lines ≡ 8
+  pub says : (i : ℕ) → says lines i ≡ line-at g i
+  pub solvers : (i : ℕ) (l : Line) → Has lines i l → Ended f (line-rounds p (g .row i) (line-at g i)) (l .solver)
+
+abbrev pub Reached : Profile → Form → (y b : Series) → Ending → Type 0
+Reached p f y b e =
+    (e .settled ≡ true → (g : Progress) × (stages p (p .nested) 0 (start p y) ≡ settled (e .stage) g) × (g .block ≡ b) × Shows p f g (e .lines))
+    × (e .settled ≡ false → stages p (p .nested) 0 (start p y) ≡ stopped (e .stage))
