@@ -12,20 +12,14 @@ use mathlib.Core.List.{List}
 use mathlib.Core.Option.{some}
 use native.Mathlib.Decide.{decLt}
 use native.Mathlib.Omega.{arith}
-use lib.ListN.{length, getD}
 use Rattle.field.specs.declared.Gf.{Gf}
-use Rattle.field.specs.Field.{𝟎, _≟_, val}
+use Rattle.field.specs.Field.{𝟎, _≟_}
 use Rattle.series.specs.Series.{Series, O, O-at}
-use Rattle.series.specs.Array.{read-at}
 use Rattle.series.specs.Decide.{holds, holds-yes, holds-no, all?}
 use Rattle.series.specs.Word.{word}
-use Rattle.polynomial.specs.Polynomial.{row, below-row, row-values}
+use Rattle.polynomial.specs.Polynomial.{row, below-row}
 use Rattle.settle.specs.Definition.{settle}
 use Rattle.settle.specs.Settle.{settle-zero}
-
--- a table's entry
-pub row-at : (l : List Gf) (i : ℕ) → length l ≡ 48 → row l i ≡ val (getD l i (record { 0 = 0 }))
-row-at l i h = ap (λ (f : Series). f i) (row-values l h) ∙ read-at val _ l i
 
 pub row-zero : (l : List Gf) → ((j : ℕ) → j < 48 → row l j ≡ 𝟎) → row l ≡ O
 row-zero l h = fun-ext (λ j. by-cases (decLt j 48) (h j) (λ n. below-row l j (omega arith)) ∙ sym (O-at j))

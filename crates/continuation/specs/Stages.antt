@@ -14,7 +14,7 @@ use Rattle.iteration.specs.Run.{joined}
 use Rattle.iteration.specs.Ahead.{Agree}
 use Rattle.profile.specs.declared.Profile.{Profile}
 use Rattle.profile.specs.Definition.{capability}
-use Rattle.profile.specs.Valid.{Valid, capability-mono}
+use Rattle.profile.specs.Valid.{Valid, capability-most}
 use Rattle.staged.specs.Definition.{round-of, rounds-of}
 use Rattle.staged.specs.Rounds.{rounds-joined, rounds-cong}
 use Rattle.rounds.specs.declared.form.Form.{Form}
@@ -32,7 +32,7 @@ module _ (p : Profile) (ok : Valid p) (f : Form) (S : Series) (s q : Solver) whe
         from = refl;
         to = rounds-joined p ok S 0 (omega arith);
         past = past;
-        few = omega (arith, ok .most, capability-mono p ok 0 (p .nested) (omega arith) (omega arith));
+        few = omega (arith, capability-most p ok 0 (omega arith));
       }
 
   -- T is the row as it was
@@ -47,5 +47,5 @@ module _ (p : Profile) (ok : Valid p) (f : Form) (S : Series) (s q : Solver) whe
         from = rounds-joined p ok S r (omega arith);
         to = rounds-joined p ok S (suc r) h;
         past = past;
-        few = omega (arith, ok .most, capability-mono p ok (suc r) (p .nested) h (omega arith));
+        few = omega (arith, capability-most p ok (suc r) h);
       }

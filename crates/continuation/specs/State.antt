@@ -13,14 +13,13 @@ use native.Mathlib.Omega.{arith}
 use lib.ListN.{length, take, replicate, length-append}
 use Rattle.field.specs.Field.{F, 𝟎}
 use Rattle.series.specs.Series.{Series}
-use Rattle.series.specs.Shift.{cut-unique}
 use Rattle.series.specs.Degree.{below, below-cut-eq}
-use Rattle.series.specs.Word.{entry, word, length-word, entry-word, entry-past}
+use Rattle.series.specs.Word.{entry, word, length-word, entry-word, entry-past, word-cut}
 use Rattle.iteration.specs.Plain as Plain
 use Rattle.iteration.specs.Run.{Factors, iteration, joined, events, count, entered, iterations, so-far, measure, factors}
 use Rattle.iteration.specs.Claim.{lookahead-is, scaled-is}
 use Rattle.iteration.specs.Ahead.{Agree}
-use Rattle.iteration.specs.Measure.{measure-γ, factors-nonzero, δ-agree, measure-agree}
+use Rattle.iteration.specs.Measure.{measure-γ, factors-nonzero, measure-agree, factors-agree}
 use Rattle.iteration.specs.Walk.{Keeps, run-state}
 use Rattle.iteration.specs.Agreement.{plain-keeps, lookahead-keeps, scaled-keeps}
 use Rattle.iteration.specs.Ends.{finish, finish-is, joined-append}
@@ -48,14 +47,6 @@ state f r S = want f r S (measure S r) (factors S r)
 state-finish : (f : Form) (rounds : List (List F)) → finish (form-of f) rounds .state ≡ state f (length (joined rounds)) (entry (joined rounds))
 unfolding state
 state-finish f rounds = ap (λ p. p .state) (finish-is (form-of f) (want f) (keeps f) rounds)
-
--- only the syndromes below r count in the factors, as in the measure
-factors-agree : (r : ℕ) (S J : Series) → Agree r S J → factors S r ≡ factors J r
-unfolding factors
-factors-agree zero S J h = refl
-factors-agree (suc r) S J h =
-    let l : Agree r S J = λ i k. h i (omega arith) in
-    rw (measure-agree r S J l, factors-agree r S J l, δ-agree r S J (measure J r) h) refl
 
 state-enter : (f : Form) (u : ℕ) (S J : Series) → Agree u S J → S u ≡ 𝟎 → form-of f .enter u J (state f u S) ≡ state f u J
 unfolding state
@@ -116,8 +107,7 @@ module _ (f : Form) (rounds : List (List F)) (n : ℕ) (S : Series) (are : joine
   reached-ended h = (h .0, ap (λ k. state-of f k s) long ∙ h .1 ∙ sym end)
 
 entry-whole : (v : ℕ) (S : Series) → below v S → entry (word v S) ≡ S
-entry-whole v S past =
-    sym (cut-unique v S _ (λ i l. sym (entry-word v S i l)) (λ i l. entry-past _ i (omega (arith, length-word v S)))) ∙ below-cut-eq v S past
+entry-whole v S past = word-cut v S ∙ below-cut-eq v S past
 
 module _ (rounds : List (List F)) (round : List F) (u v : ℕ) (S : Series) (next : Next rounds round u v S) where
   pub next-rising : u ≤ v

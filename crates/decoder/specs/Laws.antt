@@ -2,22 +2,20 @@
 --
 -- Proved: a copy goes on byte by byte (copied-more); the changed symbols are counted line by line (changed-none, changed-more); what the questions let
 -- pass (passed); each end of decoding gives what the definition says (gives-unsettled, gives-foreign, gives-read).
-use Prim.Native.Nat.{ℕ, suc, _+_, _≤_, _<_}
-use mathlib.Core.Path.{_≡_, refl, sym, ap, ap₂, _∙_}
+use Prim.Native.Nat.{ℕ, _+_, _≤_, _<_}
+use mathlib.Core.Path.{_≡_, refl, sym, ap, _∙_}
 use mathlib.Core.Bool.{true, false}
-use mathlib.Core.List.{List, [], _∷_, map}
+use mathlib.Core.List.{List}
 use native.Mathlib.Decide.{ℕ-discrete}
 use native.Mathlib.Numerals.{add-one}
 use native.Mathlib.Omega.{arith}
 use lib.Dec.{eqb}
-use lib.ListN.{length, getD, set, length-map}
+use lib.ListN.{length, getD, set}
 use lib.Seq.{getD-set-same, getD-set-other}
 use borrow.Author.Tests.{eqb-true}
-use Rattle.field.specs.Field.{of, byte, byte-of}
 use Rattle.series.specs.Series.{Series}
-use Rattle.series.specs.Array.{bytes, bytes-entry}
+use Rattle.series.specs.Array.{bytes, word-bytes}
 use Rattle.series.specs.Decide.{holds}
-use Rattle.series.specs.Word.{word, word-entry}
 use Rattle.profile.specs.declared.Profile.{Profile}
 use Rattle.profile.specs.declared.Refusal.{Refusal}
 use Rattle.profile.specs.declared.Refusal.the-variants.{InputSize, OutputSize, Unsettled, NotCodeword}
@@ -82,14 +80,6 @@ module _ (p : Profile) (f : Form) (y b : Series) (e : Ending) (r : Reached p f y
   pub foreign-is : e .settled ≡ true → holds (codeword? p b) ≡ false → concluded p (decode p y) ≡ refused NotCodeword
   unfolding decode
   foreign-is h wrong = let (g, is, block, _) = r .0 h in rw (is, block, wrong)
-
-bytes-back : (s : List ℕ) → ((i : ℕ) → getD s i 0 < 256) → map byte (map of s) ≡ s
-bytes-back [] h = refl
-bytes-back (x ∷ s) h = ap₂ _∷_ (byte-of x (h 0)) (bytes-back s (λ i. h (suc i)))
-
--- the bytes of a block of n bytes
-word-bytes : (n : ℕ) (s : List ℕ) → length s ≡ n → ((i : ℕ) → getD s i 0 < 256) → map byte (word n (bytes s)) ≡ s
-word-bytes n s l h = ap (map byte) (ap (word n) (bytes-entry s) ∙ word-entry n (map of s) (length-map s of ∙ l)) ∙ bytes-back s h
 
 pub gives-read : (p : Profile) (f : Form) (y : Series) (b o c : List ℕ) (e : Ending) (a : Reading) → c ≡ b → length b ≡ block-size p → ((i : ℕ) → getD b i 0 < 256)
     → Reached p f y (bytes b) e → e .settled ≡ true → holds (codeword? p (bytes b)) ≡ true → a .answer ≡ answer.Accepted → a .report .lines ≡ e .lines

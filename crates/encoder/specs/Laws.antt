@@ -1,12 +1,11 @@
 -- From the questions to the block, and from the block to its bytes.
-use Prim.Native.Nat.{ℕ, suc, _≤_, _<_}
-use mathlib.Core.Path.{_≡_, refl, sym, ap, ap₂, _∙_}
-use mathlib.Core.List.{List, [], _∷_, map}
+use Prim.Native.Nat.{ℕ, _≤_, _<_}
+use mathlib.Core.Path.{_≡_, sym, ap, _∙_}
+use mathlib.Core.List.{List}
 use lib.Dec.{eqb}
 use lib.ListN.{length, getD}
 use borrow.Author.Tests.{eqb-true}
-use Rattle.field.specs.Field.{of, byte, byte-of}
-use Rattle.series.specs.Array.{bytes}
+use Rattle.series.specs.Array.{bytes, bytes-back}
 use Rattle.profile.specs.declared.Profile.{Profile}
 use Rattle.profile.specs.declared.Refusal.the-variants.{InputSize, OutputSize}
 use Rattle.profile.specs.declared.Parsed.{Parsed}
@@ -24,10 +23,6 @@ accepted b d o p e small =
     let (e1, output) = ask-yes (λ p. eqb o (block-size p)) OutputSize (ask (λ p. eqb d (data-size p)) InputSize (profile-of b)) p e in
     let (e2, input) = ask-yes (λ p. eqb d (data-size p)) InputSize (profile-of b) p e1 in
     (profile-valid b p e2 (rw (ap (λ q. q .length) (profile-read b p e2)) small), eqb-true d (data-size p) input, eqb-true o (block-size p) output)
-
-bytes-back : (s : List ℕ) → ((i : ℕ) → getD s i 0 < 256) → map byte (map of s) ≡ s
-bytes-back [] h = refl
-bytes-back (x ∷ s) h = ap₂ _∷_ (byte-of x (h 0)) (bytes-back s (λ i. h (suc i)))
 
 -- a block of bytes that encodes the data is what is written
 pub written-is : (p : Profile) → Valid p → (a : Parsed) (d o s : List ℕ) → a ≡ Accepted p → length s ≡ block-size p → ((i : ℕ) → getD s i 0 < 256)

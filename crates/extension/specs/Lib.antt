@@ -1,5 +1,4 @@
 -- Definition is what the promises speak of; the others prove them.
 pub mod Definition
-pub mod Count
 pub mod Lagrange
 pub mod Rows

@@ -1,7 +1,8 @@
 -- The measure and the factors.
 --
 -- Proved: γ is never zero (measure-γ), nor is a factor (factors-nonzero); after r iterations Λ and B have coefficients 0 to r alone (measure-below);
--- iteration r reads the syndromes up to r alone (δ-agree), so that syndromes that agree below r give the same measure (measure-agree).
+-- iteration r reads the syndromes up to r alone (δ-agree), so that syndromes that agree below r give the same measure (measure-agree) and the same
+-- factors (factors-agree).
 use Prim.Native.Nat.{ℕ, zero, suc}
 use mathlib.Core.Path.{_≡_, refl, sym, ap, _∙_}
 use mathlib.Core.Bool.{Bool, true, false, cond}
@@ -65,3 +66,10 @@ pub measure-agree : (r : ℕ) (S J : Series) → Agree r S J → measure S r ≡
 unfolding measure Plain.iterate
 measure-agree zero S J h = refl
 measure-agree (suc r) S J h = rw (measure-agree r S J (λ i l. h i (omega arith)), δ-agree r S J (measure J r) h) refl
+
+pub factors-agree : (r : ℕ) (S J : Series) → Agree r S J → factors S r ≡ factors J r
+unfolding factors
+factors-agree zero S J h = refl
+factors-agree (suc r) S J h =
+    let l : Agree r S J = λ i k. h i (omega arith) in
+    rw (measure-agree r S J l, factors-agree r S J l, δ-agree r S J (measure J r) h) refl

@@ -37,6 +37,10 @@ pub poly-at : (l : List Gf) (i : ℕ) → i < 49 → poly l i ≡ val (getD l i 
 unfolding poly
 poly-at l i h = cut-low 49 (values l) i h ∙ read-at val _ l i
 
+pub row-at : (l : List Gf) (i : ℕ) → i < 48 → row l i ≡ val (getD l i (record { 0 = 0 }))
+unfolding row
+row-at l i h = cut-low 48 (values l) i h ∙ read-at val _ l i
+
 -- nothing is cut off an array
 pub poly-values : (l : List Gf) → length l ≡ 49 → poly l ≡ values l
 unfolding poly

@@ -2,7 +2,7 @@
 --
 --   Valid p    the profile p passes questions 2 to 5
 --
--- Proved: an accepted profile is the one that was judged, and valid; capabilities rise; subwords with a smaller number have more check symbols,
+-- Proved: an accepted profile is the one that was judged, and valid; capabilities rise, to 24 at most; subwords with a smaller number have more check symbols,
 -- each has at least 2 t0, at most 48 and fewer than n; the data size counts the data positions, so data symbols have numbers below it.
 use Prim.Native.Nat.{ℕ, zero, suc, _+_, _-_, _*_, _≤_, _<_}
 use mathlib.Core.Path.{_≡_, refl, _∙_, subst}
@@ -127,6 +127,9 @@ module _ (p : Profile) (ok : Valid p) where
 
   pub capability-mono : (r s : ℕ) → r ≤ s → s ≤ p .nested → capability p r ≤ capability p s
   capability-mono r s h k = let e : s ≡ r + (s - r) = omega arith in rw e (climb (s - r) r (omega arith))
+
+  pub capability-most : (r : ℕ) → r ≤ p .nested → capability p r ≤ 24
+  capability-most r h = omega (arith, ok .most, capability-mono r (p .nested) h (omega arith))
 
   pub checks-mono : (l i : ℕ) → l ≤ i → checks p i ≤ checks p l
   checks-mono l i h = rw (checks-is p i, checks-is p l) (omega (arith, capability-mono (p .nested - i) (p .nested - l) (omega arith) (omega arith)))

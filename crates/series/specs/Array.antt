@@ -8,19 +8,19 @@
 --
 -- A loop that fills an array with f from the front keeps `Filled`: it begins with filled-none, goes on by filled-more, and ends by filled-all.
 use Prim.Native.Nat.{ℕ, zero, suc, _+_, _≤_, _<_}
-use mathlib.Core.Path.{_≡_, refl, sym, ap, _∙_, fun-ext}
+use mathlib.Core.Path.{_≡_, refl, sym, ap, ap₂, _∙_, fun-ext}
 use mathlib.Core.Logic.{_≢_}
-use mathlib.Core.List.{List, map}
+use mathlib.Core.List.{List, [], _∷_, map}
 use native.Mathlib.Decide.{ℕ-discrete}
 use native.Mathlib.Omega.{arith}
-use lib.ListN.{length, getD, set, replicate, length-set, length-replicate, List·getD-eq-default, List·getD-map}
+use lib.ListN.{length, getD, set, replicate, length-set, length-map, length-replicate, List·getD-eq-default, List·getD-map}
 use lib.Seq.{getD-set-same, getD-set-other}
 use Rattle.field.specs.declared.Gf.{Gf}
-use Rattle.field.specs.Field.{F, 𝟎, of, of-zero, val, val-zero}
+use Rattle.field.specs.Field.{F, 𝟎, of, byte, of-byte, byte-of, of-zero, val, val-zero}
 use Rattle.series.specs.Series.{Series, O-at}
 use Rattle.series.specs.Shift.{cut, cut-low, cut-high, cut-unique, cut-none, cut-zero}
 use Rattle.series.specs.Degree.{below, below-weaken, below-cut-eq}
-use Rattle.series.specs.Word.{entry, entry-is}
+use Rattle.series.specs.Word.{entry, word, entry-is, word-entry}
 
 unfoldable pub read : {A : Type 0} → (A → F) → A → List A → Series
 read m d l i = m (getD l i d)
@@ -68,6 +68,23 @@ module _ {A : Type 0} (m : A → F) (d : A) where
 -- an array of bytes and the stored word of their values
 pub bytes-entry : (l : List ℕ) → bytes l ≡ entry (map of l)
 bytes-entry l = fun-ext (λ i. sym (entry-is (map of l) i ∙ ap (getD (map of l) i) (sym of-zero) ∙ List·getD-map of l i 0 ∙ sym (read-at of 0 l i)))
+
+-- ---- bytes of words
+
+pub bytes-back : (l : List ℕ) → ((i : ℕ) → getD l i 0 < 256) → map byte (map of l) ≡ l
+bytes-back [] h = refl
+bytes-back (x ∷ l) h = ap₂ _∷_ (byte-of x (h 0)) (bytes-back l (λ i. h (suc i)))
+
+-- the bytes of a stored word are those it came from
+pub word-bytes : (n : ℕ) (l : List ℕ) → length l ≡ n → ((i : ℕ) → getD l i 0 < 256) → map byte (word n (bytes l)) ≡ l
+word-bytes n l e h = ap (map byte) (ap (word n) (bytes-entry l) ∙ word-entry n (map of l) (length-map l of ∙ e)) ∙ bytes-back l h
+
+pub bytes-word : (w : List F) → bytes (map byte w) ≡ entry w
+bytes-word w = bytes-entry (map byte w) ∙ ap entry (back w)
+  where
+    back : (w : List F) → map of (map byte w) ≡ w
+    back [] = refl
+    back (x ∷ w) = ap₂ _∷_ (of-byte x) (back w)
 
 -- ---- filling an array of `Gf` from the front
 

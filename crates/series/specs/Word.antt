@@ -4,7 +4,7 @@
 --   word n f    the first n values of f as a list
 --   weight n f  how many of the first n values of f are not zero: a strip's number of changes
 --
--- Proved: a list of n values and the first n values of a series are the same thing (entry-word, word-entry, word-ext);
+-- Proved: a list of n values and the first n values of a series are the same thing (entry-word, word-entry, word-ext, word-cut);
 -- a word cut in two weighs what its parts weigh together (weight-split), a sum at most that.
 use Prim.Native.Nat.{ℕ, zero, suc, _+_, _≤_, _<_}
 use mathlib.Core.Path.{_≡_, refl, sym, _∙_, ap, ap₂}
@@ -17,6 +17,7 @@ use lib.ListN.{length, getD, List·getD-eq-default}
 use lib.Seq.{ext-getD}
 use Rattle.field.specs.Field.{F, 𝟎, _⊕_, _≟_, ⊕-zero}
 use Rattle.series.specs.Series.{Series, O, O-at}
+use Rattle.series.specs.Shift.{cut, cut-unique}
 
 -- ---- lists and series
 
@@ -53,6 +54,9 @@ word-ext n v w lv lw h = ext-getD 𝟎 v w (lv ∙ sym lw) (λ i l. h i (omega a
 pub word-entry : (n : ℕ) (w : List F) → length w ≡ n → word n (entry w) ≡ w
 word-entry n w l = word-ext n (word n (entry w)) w (length-word n (entry w)) l (entry-word n (entry w))
 
+pub word-cut : (n : ℕ) (f : Series) → entry (word n f) ≡ cut n f
+word-cut n f = sym (cut-unique n f _ (λ i l. sym (entry-word n f i l)) (λ i l. entry-past _ i (omega (arith, length-word n f))))
+
 -- ---- weight
 
 unfoldable pub weight : ℕ → Series → ℕ
@@ -75,6 +79,9 @@ pub weight-cong : (n : ℕ) (f g : Series) → ((i : ℕ) → i < n → f i ≡ 
 unfolding weight
 weight-cong zero f g h = refl
 weight-cong (suc n) f g h = ap₂ (λ x k. ite (x ≟ 𝟎) k (suc k)) (h n (omega arith)) (weight-cong n f g (λ i l. h i (omega arith)))
+
+pub weight-word : (n : ℕ) (f : Series) → weight n (entry (word n f)) ≡ weight n f
+weight-word n f = weight-cong n _ f (entry-word n f)
 
 pub weight-O : (n : ℕ) → weight n O ≡ 0
 weight-O zero = weight-none O

@@ -1,11 +1,12 @@
 -- Laws of counts, of the numbers that pass a test, and of totals.
 --
 -- Proved: the count is zero exactly if no number passes (count-none, none-count), falls with the test (count-imp), and is a matter of the numbers
--- below n (count-cong); the numbers that pass rise (nth-rising), are below n (nth-lt), pass (nth-passes) and are all there, each numbered by how many
+-- below n (count-cong), at most n (count-most), one number after the other (count-next); the numbers that pass rise (nth-rising), are below n (nth-lt), pass (nth-passes) and are all there, each numbered by how many
 -- stand before it (nth-rank, rank-nth, rank-lt); a sum over them is a sum over all that pass (nth-sum).
 use Prim.Native.Nat.{ℕ, zero, suc, _+_, _≤_, _<_}
 use mathlib.Core.Path.{_≡_, refl, sym, ap, ap₂, _∙_}
 use mathlib.Core.Bool.{Bool, true, false, cond, true≢false}
+use native.Mathlib.Numerals.{add-one}
 use native.Mathlib.Omega.{arith}
 use native.Mathlib.Decide.{decLt, ℕ-discrete}
 use borrow.Author.Tests.{lt-ltb, le-ltb}
@@ -26,6 +27,19 @@ count-no n b e = rw e
 pub count-zero : (b : ℕ → Bool) → count 0 b ≡ 0
 unfolding count
 count-zero b = refl
+
+pub count-most : (n : ℕ) (b : ℕ → Bool) → count n b ≤ n
+count-most zero b = omega (arith, count-zero b)
+count-most (suc n) b = go (count-most n b) (b n) refl
+  where
+    go : count n b ≤ n → (x : Bool) → b n ≡ x → count (suc n) b ≤ suc n
+    go ih true e = omega (arith, count-yes n b e)
+    go ih false e = omega (arith, count-no n b e)
+
+-- c of the numbers below i pass, and r counts i too
+pub count-next : (b : ℕ → Bool) (i c r : ℕ) → r ≡ cond (b i) (suc c) c → c ≡ count i b → r ≡ count (i + 1) b
+unfolding count
+count-next b i c r e h = e ∙ ap (λ c. cond (b i) (suc c) c) h ∙ ap (λ n. count n b) (sym (add-one i))
 
 pub count-cong : (n : ℕ) (b c : ℕ → Bool) → ((i : ℕ) → i < n → b i ≡ c i) → count n b ≡ count n c
 unfolding count

@@ -15,11 +15,11 @@ use borrow.Author.Tests.{eqb-true, eq-eqb, ne-eqb}
 use Rattle.field.specs.declared.Gf.{Gf}
 use Rattle.field.specs.Field.{𝟎}
 use Rattle.series.specs.Series.{Series, O, O-at, _⊞_, _⊠_, ⊠-ring}
-use Rattle.series.specs.Shift.{zpow, cut, cut-unique}
+use Rattle.series.specs.Shift.{zpow, cut}
 use Rattle.series.specs.Degree.{below, below-O, below-cut-eq}
 use Rattle.series.specs.Array.{values}
 use Rattle.series.specs.Value.{value-zero}
-use Rattle.series.specs.Word.{entry, word, weight, entry-word, entry-past, length-word, weight-cong, weight-O, zero-weight}
+use Rattle.series.specs.Word.{entry, word, weight, word-cut, weight-word, weight-O, zero-weight}
 use Rattle.series.specs.Decide.{holds}
 use Rattle.polynomial.specs.Polynomial.{row}
 use Rattle.profile.specs.declared.Profile.{Profile}
@@ -50,13 +50,6 @@ added n i a b c e q h = h ∙ ap (λ k. b ⊞ zpow k ⊠ e) q
 add-none : (n i : ℕ) (b : Series) → b ≡ add n i O b
 unfolding add
 add-none n i b = simp ⊠-ring
-
--- the word of the first n symbols, as a series
-word-cut : (n : ℕ) (f : Series) → entry (word n f) ≡ cut n f
-word-cut n f = sym (cut-unique n f _ (λ i l. sym (entry-word n f i l)) (λ i l. entry-past _ i (omega (arith, length-word n f))))
-
-weight-word : (n : ℕ) (f : Series) → weight n (entry (word n f)) ≡ weight n f
-weight-word n f = weight-cong n _ f (entry-word n f)
 
 entry-none : (n : ℕ) → entry (word n O) ≡ O
 entry-none n = word-cut n O ∙ below-cut-eq n O (below-O n)

@@ -1,6 +1,6 @@
 -- Capabilities rise to t_v, which is at most 24.
 use native.Mathlib.Omega.{arith}
-use Rattle.profile.specs.Valid.{capability-mono}
+use Rattle.profile.specs.Valid.{capability-most}
 use borrow.Author.Needs.{needs}
 use Rattle.attempt.proofs.correctable.Statement.{statement}
 use Rattle.attempt.proofs.correctable.Tie as tie
@@ -11,7 +11,7 @@ capability-requires c κs = search needs
 returns : tie.Need-returns
 returns c =
     let (ok, h) = c .before .pre in
-    (c .capability .ensures, omega (arith, c .capability .ensures, ok .most, capability-mono _ ok _ _ h (omega arith)))
+    (c .capability .ensures, omega (arith, c .capability .ensures, capability-most _ ok _ h))
 
 pub correctable-spec : {M : Type 1} → statement M
 correctable-spec = tie.close (tie.spec capability-requires returns)

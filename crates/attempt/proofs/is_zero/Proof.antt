@@ -7,8 +7,8 @@ use borrow.Author.Tests.{not-true, not-false}
 use Rattle.field.specs.Field.{𝟎, isZero-true, isZero-false}
 use Rattle.series.specs.Series.{Series, O-at}
 use Rattle.series.specs.Decide.{holds-yes, holds-no}
-use Rattle.polynomial.specs.Polynomial.{row as Row}
-use Rattle.attempt.specs.Zero.{row-at, row-zero, zero?}
+use Rattle.polynomial.specs.Polynomial.{row as Row, row-at}
+use Rattle.attempt.specs.Zero.{row-zero, zero?}
 use borrow.Author.Needs.{needs}
 use Rattle.attempt.proofs.is_zero.Statement.{statement}
 use Rattle.attempt.proofs.is_zero.Tie as tie
@@ -33,7 +33,7 @@ returns c =
     let now = c .before .before .before .before in
     let given = now .before .args in
     sym (holds-no (zero? (given .t1)) (λ z. isZero-false _ (sym (c .before .is-zero .ensures) ∙ not-true _ (c .if1 .taken))
-    (sym (row-at (given .t1) (now .loop .i) (search needs)) ∙ ap (λ (f : Series). f (now .loop .i)) z ∙ O-at _)))
+    (sym (row-at (given .t1) (now .loop .i) (omega arith)) ∙ ap (λ (f : Series). f (now .loop .i)) z ∙ O-at _)))
 
 add-i : tie.Need-add-i Inv-loop μ-loop
 add-i c = search needs
@@ -47,7 +47,7 @@ loop-again c =
     let given = now .before .args in (
       omega arith,
       below-more _ (now .loop .i) (now .loop .inv .1)
-          (row-at (given .t1) (now .loop .i) (search needs) ∙ isZero-true _ (sym (c .before .is-zero .ensures) ∙ not-false _ (c .if1 .left))),
+          (row-at (given .t1) (now .loop .i) (omega arith) ∙ isZero-true _ (sym (c .before .is-zero .ensures) ∙ not-false _ (c .if1 .left))),
     )
 
 returns-2 : tie.Need-returns-2 Inv-loop μ-loop

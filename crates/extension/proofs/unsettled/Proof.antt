@@ -5,7 +5,7 @@ use native.Mathlib.Omega.{arith}
 use Rattle.staged.specs.Definition.{count}
 use Rattle.staged.specs.Count.{count-zero}
 use Rattle.extension.specs.Definition.{flag}
-use Rattle.extension.specs.Count.{count-most, count-next}
+use Rattle.staged.specs.Count.{count-most, count-next}
 use borrow.Author.Needs.{needs}
 use Rattle.extension.proofs.unsettled.Statement.{statement}
 use Rattle.extension.proofs.unsettled.Tie as tie

@@ -3,7 +3,7 @@ use mathlib.Core.Path.{ap, ap₂, _∙_}
 use native.Mathlib.Numerals.{add-one}
 use native.Mathlib.Omega.{arith}
 use Rattle.profile.specs.Definition.{capability}
-use Rattle.profile.specs.Valid.{capability-mono}
+use Rattle.profile.specs.Valid.{capability-most}
 use Rattle.staged.specs.Definition.{extend}
 use Rattle.stages.specs.Walk.{extended}
 use borrow.Author.Needs.{needs}
@@ -34,8 +34,8 @@ mul-to c = search needs
 extend-requires : tie.Need-extend-requires
 extend-requires c κs =
     let given = c .before .before .before in
-    let ok = given .pre .0 .valid in
-    (given .pre .0, omega (arith, c .capability2 .ensures ∙ ap (capability (given .args .p)) (add-one (given .args .r)), ok .most, capability-mono (given .args .p) ok (suc (given .args .r)) (given .args .p .nested) (given .pre .1) (omega arith)))
+    let to = c .capability2 .ensures ∙ ap (capability (given .args .p)) (add-one (given .args .r)) in
+    (given .pre .0, omega (arith, to, capability-most (given .args .p) (given .pre .0 .valid) (suc (given .args .r)) (given .pre .1)))
 
 returns : tie.Need-returns
 returns c =

@@ -1,0 +1,175 @@
+-- What the promises of `decode` come to. `reading b y o` is the result for the profile bytes b, the input y and an output of o bytes; what is answered,
+-- written and reported for it is what `decode` promises.
+--
+--   Judged b p n      the bytes b are an accepted profile p whose blocks have n bytes
+--   Accepts b y o     the reading is accepted: of which profile, with which block and report
+--   Alike f g e k a c  the readings a and c end alike, but for the solvers, which stand at the end of the same rounds in each form
+--
+-- Proved: an accepted block is a codeword, always (read-accepts, read-codeword); a block with right sizes is decoded as staged decoding says (reading-is); a written
+-- block is restored under document 01's condition (read-restores), and one that was not touched always (read-written); the answer is 8 exactly if
+-- decoding fails (read-fails), where no mistake is made exactly if too many subwords have too many changes (read-fails-exactly). Two readings of the
+-- same bytes that differ in the form alone end alike (alike).
+use Prim.Native.Nat.{ℕ, _<_}
+use mathlib.Core.Path.{_≡_, refl, sym, ap, _∙_}
+use mathlib.Core.Logic.{_↔_}
+use mathlib.Core.List.{List, map}
+use native.Mathlib.Omega.{arith}
+use lib.ListN.{length, getD}
+use borrow.Author.Tests.{eq-eqb}
+use Rattle.field.specs.Field.{F, byte}
+use Rattle.series.specs.Series.{Series}
+use Rattle.series.specs.Shift.{cut, cut-low}
+use Rattle.series.specs.Array.{bytes, bytes-word, word-bytes}
+use Rattle.series.specs.Word.{word, word-cut}
+use Rattle.profile.specs.declared.Profile.{Profile}
+use Rattle.profile.specs.declared.Refusal.the-variants.{InputSize, OutputSize, Unsettled}
+use Rattle.profile.specs.declared.Parsed.{Parsed}
+use Rattle.profile.specs.declared.Parsed.the-variants.{Accepted, Refused}
+use Rattle.profile.specs.declared.Answer.the-variants as answer
+use Rattle.profile.specs.Definition.{profile-of, block-size}
+use Rattle.profile.specs.Laws.{ask-yes}
+use Rattle.profile.specs.Valid.{Valid, profile-valid}
+use Rattle.code.specs.Definition.{Codeword}
+use Rattle.code.specs.Block.{agree-block, codeword-cong}
+use Rattle.rounds.specs.declared.form.Form.{Form}
+use Rattle.continuation.specs.Definition.{Ended}
+use Rattle.staged.specs.Definition as staged
+use Rattle.staged.specs.Definition.{Outcome, accepted, failed, foreign, decode}
+use Rattle.staged.specs.Course.{Fails, failed-course}
+use Rattle.staged.specs.Accepted.{accepted-codeword}
+use Rattle.staged.specs.Restorable.{Unmistaken, Restorable, TooMany, Restored}
+use Rattle.staged.specs.Restoring.{restoring-bytes}
+use Rattle.staged.specs.Failing.{failing-exactly}
+use Rattle.staged.specs.Clean.{untouched, decode-codeword}
+use Rattle.stages.specs.declared.Line.{Line}
+use Rattle.stages.specs.View.{says, Has}
+use Rattle.decoder.specs.declared.Reading.{Reading}
+use Rattle.decoder.specs.Definition.{questioned, Result, read, concluded, judged, reading, answer-to, block-of, report-of, Gives}
+
+-- ---- accepted profiles
+
+pub record Judged (b : List ℕ) (p : Profile) (n : ℕ) : Type 0 where
+  pub profile : profile-of b ≡ Accepted p
+  pub small : (i : ℕ) → getD b i 0 < 256
+  pub size : n ≡ block-size p
+
+judged-valid : (b : List ℕ) (p : Profile) (n : ℕ) → Judged b p n → Valid p
+judged-valid b p n j = profile-valid b p (j .profile) (omega (arith, j .small 2))
+
+pub reading-is : (b : List ℕ) (p : Profile) (y : List ℕ) (o : ℕ) → Judged b p (length y) → o ≡ length y → reading b y o ≡ concluded p (decode p (bytes y))
+reading-is b p y o j e = rw (j .profile, eq-eqb (length y) (block-size p) (j .size), eq-eqb o (block-size p) (e ∙ j .size))
+
+-- ---- accepted blocks
+
+-- what an accepted answer means
+pub record Accepts (b y : List ℕ) (o : ℕ) : Type 0 where
+  pub p : Profile
+  pub block : Series
+  pub report : staged.Report
+  pub profile : profile-of b ≡ Accepted p
+  pub decoded : decode p (bytes y) ≡ accepted block report
+  pub is : reading b y o ≡ read p block report
+
+pub read-accepts : (b y : List ℕ) (o : ℕ) → answer-to (reading b y o) ≡ answer.Accepted → Accepts b y o
+read-accepts b y o e = go (questioned b (length y) o) refl e
+  where
+    asked : (p : Profile) → questioned b (length y) o ≡ Accepted p → profile-of b ≡ Accepted p
+    asked p q = ask-yes _ InputSize (profile-of b) p (ask-yes _ OutputSize _ p q .0) .0
+
+    outcome : (p : Profile) → questioned b (length y) o ≡ Accepted p → (z : Outcome) → decode p (bytes y) ≡ z → answer-to (concluded p z) ≡ answer.Accepted
+        → Accepts b y o
+    outcome p q (accepted s x) d e = record {
+      p = p;
+      block = s;
+      report = x;
+      profile = asked p q;
+      decoded = d;
+      is = ap (λ a. judged a y) q ∙ ap (concluded p) d;
+    }
+    outcome p q (failed r) d e = let z : _≡_ {A = ℕ} 0 1 = cc in absurd (omega arith)
+    outcome p q foreign d e = let z : _≡_ {A = ℕ} 0 1 = cc in absurd (omega arith)
+
+    go : (a : Parsed) → questioned b (length y) o ≡ a → answer-to (judged a y) ≡ answer.Accepted → Accepts b y o
+    go (Accepted p) q e = outcome p q (decode p (bytes y)) refl e
+    go (Refused r) q e = let z : _≡_ {A = ℕ} 0 1 = cc in absurd (omega arith)
+
+-- ---- codewords
+
+-- what goes out is the block
+block-is : (p : Profile) (s : Series) → bytes (map byte (word (block-size p) s)) ≡ cut (block-size p) s
+block-is p s = bytes-word (word (block-size p) s) ∙ word-cut (block-size p) s
+
+pub read-codeword : (b y o : List ℕ) → answer-to (reading b y (length o)) ≡ answer.Accepted
+    → (p : Profile) × (profile-of b ≡ Accepted p) × Codeword p (bytes (block-of (reading b y (length o)) o))
+read-codeword b y o e =
+    let a = read-accepts b y (length o) e in
+    let n = block-size (a .p) in
+    let same = agree-block (a .p) 0 (a .block) (cut n (a .block)) (λ k _ l. sym (cut-low n (a .block) k l)) in
+    let code = codeword-cong (a .p) (a .block) (cut n (a .block)) same (accepted-codeword (a .p) (bytes y) (a .block) (a .report) (a .decoded)) in
+    (a .p, a .profile, rw (a .is, block-is (a .p) (a .block)) code)
+
+-- ---- restoring
+
+module _ (b : List ℕ) (p : Profile) (c y o : List ℕ) (j : Judged b p (length y)) (same : length c ≡ length y) (room : length o ≡ length y)
+    (small : (i : ℕ) → getD c i 0 < 256) where
+  -- c was written and y is read
+  pub read-restores : Restorable p (bytes c) (bytes y)
+      → (answer-to (reading b y (length o)) ≡ answer.Accepted) × (block-of (reading b y (length o)) o ≡ c)
+      × Restored p (bytes c) (bytes y) (report-of (reading b y (length o)))
+  read-restores r =
+      let (x, e, f) = restoring-bytes p (judged-valid b p (length y) j) c y (same ∙ j .size) (j .size) r in
+      rw (reading-is b p y (length o) j room, e) (refl, word-bytes (block-size p) c (same ∙ j .size) small, f)
+
+pub read-written : (b : List ℕ) (p : Profile) (c o : List ℕ) → Judged b p (length c) → length o ≡ length c → ((i : ℕ) → getD c i 0 < 256)
+    → Codeword p (bytes c)
+    → (answer-to (reading b c (length o)) ≡ answer.Accepted) × (block-of (reading b c (length o)) o ≡ c) × (report-of (reading b c (length o)) ≡ untouched)
+read-written b p c o j room small code =
+    rw (reading-is b p c (length o) j room, decode-codeword p (judged-valid b p (length c) j) (bytes c) code)
+    (refl, word-bytes (block-size p) c (j .size) small, refl)
+
+-- ---- the answer 8
+
+module _ (b : List ℕ) (p : Profile) (y : List ℕ) (o : ℕ) (j : Judged b p (length y)) (room : o ≡ length y) (s : ℕ) where
+  pub read-fails : answer-to (reading b y o) ≡ answer.Refused (Unsettled s) ↔ Fails p (bytes y) s
+  read-fails = (
+    λ e. failed-course p (bytes y) s .0 (to (decode p (bytes y)) (ap answer-to (sym is) ∙ e)),
+    λ f. ap answer-to (is ∙ ap (concluded p) (failed-course p (bytes y) s .1 f)),
+  )
+    where
+      is : reading b y o ≡ concluded p (decode p (bytes y))
+      is = reading-is b p y o j room
+
+      to : (z : Outcome) → answer-to (concluded p z) ≡ answer.Refused (Unsettled s) → z ≡ failed s
+      to (accepted d x) e = let z : _≡_ {A = ℕ} 0 1 = cc in absurd (omega arith)
+      to (failed r) e = let q : r ≡ s = cc in ap failed q
+      to foreign e = let z : _≡_ {A = ℕ} 0 1 = cc in absurd (omega arith)
+
+  -- c was written
+  pub read-fails-exactly : (c : Series) → Unmistaken p c (bytes y) → answer-to (reading b y o) ≡ answer.Refused (Unsettled s) ↔ TooMany p c (bytes y) s
+  read-fails-exactly c u =
+      let exact = failing-exactly p (judged-valid b p (length y) j) c (bytes y) u s in
+      let course = failed-course p (bytes y) s in
+      (λ e. exact .0 (course .1 (read-fails .0 e)), λ t. read-fails .1 (course .0 (exact .1 t)))
+
+-- ---- all three forms
+
+-- e and k are what the outputs hold in the end
+pub record Alike (f g : Form) (e k : List ℕ) (a c : Reading) : Type 0 where
+  pub answer : a .answer ≡ c .answer
+  pub block : e ≡ k
+  pub lines : (i : ℕ) → says (a .report .lines) i ≡ says (c .report .lines) i
+  pub changed : a .report .changed ≡ c .report .changed
+  pub last : a .report .last ≡ c .report .last
+  pub solvers : (i : ℕ) (l m : Line) → Has (a .report .lines) i l → Has (c .report .lines) i m
+      → (rounds : List (List F)) × Ended f rounds (l .solver) × Ended g rounds (m .solver)
+
+-- the promises of `decode` are the fields of Gives, r being `reading` of what is lent
+pub alike : (f g : Form) (r : Result) (o e k : List ℕ) (a c : Reading) → Gives f r o e a → Gives g r o k c → Alike f g e k a c
+alike f g r o e k a c x y = record {
+  answer = x .answer ∙ sym (y .answer);
+  block = x .block ∙ sym (y .block);
+  lines = λ i. x .report .lines i ∙ sym (y .report .lines i);
+  changed = x .report .changed ∙ sym (y .report .changed);
+  last = x .report .last ∙ sym (y .report .last);
+  solvers = λ i l m h j. (report-of r .rounds i, x .report .solvers i l h, y .report .solvers i m j);
+}
