@@ -17,7 +17,7 @@ use native.Mathlib.Decide.{decLt, ℕ-discrete}
 use native.Mathlib.Nat.{add-sub-cancel-left, suc-mul, mul-le-mul-right}
 use native.Mathlib.Omega.{arith}
 use lib.Dec.{ltb}
-use lib.ListN.{length, getD, set, take, drop, replicate, length-drop, length-replicate}
+use lib.ListN.{length, getD, set, take, drop, replicate, length-drop}
 use lib.Seq.{getD-set-same, getD-set-other, length-take-le}
 use borrow.Author.Tests.{lt-ltb, le-ltb}
 use Rattle.field.specs.declared.Gf.{Gf}
@@ -28,7 +28,7 @@ use Rattle.series.specs.Degree.{below-O, below-cut-eq}
 use Rattle.series.specs.Decide.{holds, holds-yes, holds-no}
 use Rattle.series.specs.Array.{bytes, read-zeros}
 use Rattle.series.specs.Part.{read-take}
-use Rattle.polynomial.specs.Polynomial.{row, row-values}
+use Rattle.polynomial.specs.Polynomial.{row, row-zeros}
 use Rattle.profile.specs.declared.Profile.{Profile}
 use Rattle.profile.specs.Definition.{checks, block-size}
 use Rattle.profile.specs.Valid.{Valid, checks-is, checks-high}
@@ -65,9 +65,6 @@ received p s k = rows (p .subwords) (λ i. cut k (syndrome (p .length) (subword 
 row-empty : row [] ≡ O
 unfolding row
 row-empty = ap (cut 48) (read-zeros val _ val-zero 0 O ∙ cut-none O) ∙ below-cut-eq 48 O (below-O 48)
-
-row-zeros : row (replicate {A = Gf} 48 (record { 0 = 0 })) ≡ O
-row-zeros = row-values (replicate 48 (record { 0 = 0 })) (length-replicate {A = Gf} 48 (record { 0 = 0 })) ∙ read-zeros val (record { 0 = 0 }) val-zero 48 O ∙ cut-none O
 
 pub rows-none : (f : ℕ → Series) → table (replicate 8 (replicate 48 (record { 0 = 0 }))) ≡ rows 0 f
 rows-none f = fun-ext (λ i. same 8 i ∙ sym (rw (le-ltb i 0 (omega arith))))

@@ -7,6 +7,7 @@ ghost use Rattle.series.specs.Series.{K, _⊞_, _⊠_};
 ghost use Rattle.series.specs.Shift.{cut};
 ghost use Rattle.series.specs.Array.{bytes};
 ghost use Rattle.series.specs.Decide.{holds};
+ghost use Rattle.reed_solomon.specs.Encoder.{Table};
 ghost use Rattle.code.specs.Definition.{subword, nested as Nested};
 ghost use Rattle.code.specs.Encoding.{codeword?};
 ghost use Rattle.code.specs.Check.{Fits, table, received, sums};
@@ -51,9 +52,9 @@ pub fn nested_word(p: Profile, block: &[u8], l: usize) -> [u8; POSITIONS]
     word
 }
 
-// The syndromes j < k of the subwords: eight rows of 48, unused entries zero.
-pub fn syndromes(p: Profile, block: &[u8], k: usize) -> [[Gf; SYNDROMES]; SUBWORDS]
-    requires { ⌜ Fits p (now block) × (k ≤ 48) ⌝ }
+// The same, by a table for k.
+fn syndrome_rows(p: Profile, t: &[u64], block: &[u8], k: usize) -> [[Gf; SYNDROMES]; SUBWORDS]
+    requires { ⌜ Fits p (now block) × Table k (now t) × (k ≤ 48) × (k ≤ p .length) ⌝ }
     ensures { λ r. ⌜ table r ≡ received p (bytes (now (block .entry))) k ⌝ }
 {
     let n = p.length as usize;
@@ -63,10 +64,20 @@ pub fn syndromes(p: Profile, block: &[u8], k: usize) -> [[Gf; SYNDROMES]; SUBWOR
     while i < m {
         let a = i * n;
         let e = a + n;
-        out[i] = reed_solomon::syndromes(&block[a..e], k);
+        out[i] = reed_solomon::syndromes(t, k, &block[a..e]);
         i = i + 1;
     }
     out
+}
+
+// The syndromes j < k of the subwords: eight rows of 48, unused entries zero.
+pub fn syndromes(p: Profile, block: &[u8], k: usize) -> [[Gf; SYNDROMES]; SUBWORDS]
+    requires { ⌜ Fits p (now block) × (k ≤ 48) × (k ≤ p .length) ⌝ }
+    ensures { λ r. ⌜ table r ≡ received p (bytes (now (block .entry))) k ⌝ }
+{
+    let mut t = reed_solomon::room();
+    reed_solomon::table(k, &mut t);
+    syndrome_rows(p, &t, block, k)
 }
 
 // The words of the codeword check in their order: the nested words, then the subwords.

@@ -2,11 +2,11 @@
 ghost use Prim.Native.Nat.{_<_};
 use crate::print;
 use field::Gf;
+use lookahead::Lookahead;
+use plain::Plain;
 use rounds::Form;
 use rounds::Solver;
-use solver::Lookahead;
-use solver::Plain;
-use solver::Scaled;
+use scaled::Scaled;
 
 fn value(x: Gf) {
     print::number(x.0 as usize);

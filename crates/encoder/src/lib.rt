@@ -23,9 +23,6 @@ use profile::Parsed;
 use profile::Profile;
 use profile::Refusal;
 
-// The words of a table for check symbols.
-const TABLE: usize = 1536;
-
 // (x + α^0) .. (x + α^(i-1)) at x = α^k: Newton's polynomial i.
 fn newton(i: usize, k: usize) -> Gf
     ensures { λ r. ⌜ val r ≡ Newton i k ⌝ }
@@ -127,11 +124,6 @@ fn write_subword(p: Profile, t: &[u64], i: usize, input: &[u8], out: &mut [u8])
     fill(t, k, &e[..n], input, &mut out[a..b]);
 }
 
-// Room for a table.
-fn room() -> [u64; TABLE] {
-    [0u64; TABLE]
-}
-
 // The table for k check symbols, made anew unless it was made for them.
 fn prepare(t: &mut [u64], made: usize, k: usize)
     requires { ⌜ Made made (now t) × (1 ≤ k) × (k ≤ 48) ⌝ }
@@ -149,7 +141,7 @@ fn write(p: Profile, input: &[u8], out: &mut [u8])
     ensures { λ _. ⌜ Encodes p (bytes (now (input .entry))) (bytes (now (out .exit))) ⌝ }
 {
     let n = p.length as usize;
-    let mut t = room();
+    let mut t = reed_solomon::room();
     let mut made: usize = 0;
     let mut end = input.len();
     let mut i = p.subwords as usize;

@@ -4,16 +4,16 @@
 --   row l    a table of 48 syndromes: the sequence that it holds, then zeros
 --
 -- Both cut what an array cannot hold, so that they have their degree whatever the list is.
-use Prim.Native.Nat.{ℕ, _<_}
-use mathlib.Core.Path.{_≡_, sym, ap, _∙_}
+use Prim.Native.Nat.{ℕ, _≤_, _<_}
+use mathlib.Core.Path.{_≡_, sym, ap, ap₂, _∙_}
 use mathlib.Core.List.{List}
-use lib.ListN.{length, getD}
+use lib.ListN.{length, getD, replicate, length-replicate}
 use Rattle.field.specs.declared.Gf.{Gf}
-use Rattle.field.specs.Field.{val}
-use Rattle.series.specs.Series.{Series}
-use Rattle.series.specs.Shift.{cut, cut-low}
-use Rattle.series.specs.Degree.{below, below-cut, below-cut-eq}
-use Rattle.series.specs.Array.{values, read-at, below-values}
+use Rattle.field.specs.Field.{F, val, val-zero}
+use Rattle.series.specs.Series.{Series, O, K, Z, _⊞_, _⊠_}
+use Rattle.series.specs.Shift.{cut, cut-low, cut-none, cut-⊞, cut-K-⊠}
+use Rattle.series.specs.Degree.{below, below-cut, below-cut-eq, below-K-⊠}
+use Rattle.series.specs.Array.{values, read-at, read-zeros, below-values, Filled, filled-all}
 
 unfoldable pub poly : List Gf → Series
 poly l = cut 49 (values l)
@@ -49,3 +49,17 @@ poly-values l h = below-cut-eq 49 (values l) (below-values 49 l h)
 pub row-values : (l : List Gf) → length l ≡ 48 → row l ≡ values l
 unfolding row
 row-values l h = below-cut-eq 48 (values l) (below-values 48 l h)
+
+pub row-zeros : row (replicate {A = Gf} 48 (record { 0 = 0 })) ≡ O
+row-zeros = row-values _ (length-replicate {A = Gf} 48 (record { 0 = 0 })) ∙ read-zeros val (record { 0 = 0 }) val-zero 48 O ∙ cut-none O
+
+-- an array that is filled with f, past the last coefficient of f
+pub poly-filled : {i : ℕ} {f : Series} {l : List Gf} (k : ℕ) → Filled 49 i f l → k ≤ i → below k f → poly l ≡ f
+poly-filled {l = l} k p h b = poly-values l (p .long) ∙ filled-all k p h b
+
+-- f + a g and a f + b zg, of 49 coefficients each
+pub cut-add : (a : F) (f g : Series) → below 49 f → f ⊞ K a ⊠ cut 49 g ≡ cut 49 (f ⊞ K a ⊠ g)
+cut-add a f g h = sym (cut-⊞ 49 f _ ∙ ap₂ _⊞_ (below-cut-eq 49 f h) (cut-K-⊠ 49 a g))
+
+pub cut-update : (a b : F) (f g : Series) → below 49 f → K a ⊠ f ⊞ K b ⊠ cut 49 (Z ⊠ g) ≡ cut 49 (K a ⊠ f ⊞ K b ⊠ (Z ⊠ g))
+cut-update a b f g h = cut-add b (K a ⊠ f) (Z ⊠ g) (below-K-⊠ 49 a f h)

@@ -31,21 +31,6 @@ pub fn constant(a: Gf) -> [Gf; COEFFICIENTS]
     out
 }
 
-// a f + b g
-pub fn combine(a: Gf, f: [Gf; COEFFICIENTS], b: Gf, g: [Gf; COEFFICIENTS]) -> [Gf; COEFFICIENTS]
-    ensures { λ r. ⌜ poly r ≡ K (val a) ⊠ poly f ⊞ K (val b) ⊠ poly g ⌝ }
-{
-    let mut out = [Gf::ZERO; COEFFICIENTS];
-    let mut i: usize = 0;
-    while i < COEFFICIENTS {
-        let p = a.product(f[i]);
-        let q = b.product(g[i]);
-        out[i] = p.sum(q);
-        i = i + 1;
-    }
-    out
-}
-
 pub fn scale(a: Gf, f: [Gf; COEFFICIENTS]) -> [Gf; COEFFICIENTS]
     ensures { λ r. ⌜ poly r ≡ K (val a) ⊠ poly f ⌝ }
 {
@@ -68,6 +53,15 @@ pub fn sum(f: [Gf; COEFFICIENTS], g: [Gf; COEFFICIENTS]) -> [Gf; COEFFICIENTS]
         i = i + 1;
     }
     out
+}
+
+// a f + b g
+pub fn combine(a: Gf, f: [Gf; COEFFICIENTS], b: Gf, g: [Gf; COEFFICIENTS]) -> [Gf; COEFFICIENTS]
+    ensures { λ r. ⌜ poly r ≡ K (val a) ⊠ poly f ⊞ K (val b) ⊠ poly g ⌝ }
+{
+    let p = scale(a, f);
+    let q = scale(b, g);
+    sum(p, q)
 }
 
 // The top coefficient is lost.

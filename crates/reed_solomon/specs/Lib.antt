@@ -3,3 +3,4 @@ pub mod Definition
 pub mod Systematic
 pub mod Generator
 pub mod Encoder
+pub mod Residue

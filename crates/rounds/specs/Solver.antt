@@ -33,13 +33,13 @@ use Rattle.iteration.specs.Agreement.{agreement, fits}
 use Rattle.rounds.specs.declared.form.Form.{Form}
 use Rattle.rounds.specs.declared.form.Form.the-variants.{Plain, Lookahead, Scaled}
 use Rattle.rounds.specs.declared.form.Solver.{Solver}
-use Rattle.solver.specs.declared.plain.Plain.{Plain as PlainSolver}
-use Rattle.solver.specs.declared.lookahead.Lookahead.{Lookahead as LookaheadSolver}
-use Rattle.solver.specs.declared.scaled.Scaled.{Scaled as ScaledSolver}
+use Rattle.plain.specs.declared.Plain.{Plain as PlainSolver}
+use Rattle.lookahead.specs.declared.Lookahead.{Lookahead as LookaheadSolver}
+use Rattle.scaled.specs.declared.Scaled.{Scaled as ScaledSolver}
 use Rattle.rounds.specs.declared.walk.Progress.{Progress}
-use Rattle.solver.specs.PlainView.{plain, clip-plain}
-use Rattle.solver.specs.LookaheadView.{lookahead, clip-lookahead}
-use Rattle.solver.specs.ScaledView.{scaled, clip-scaled}
+use Rattle.plain.specs.View.{plain, clip-plain}
+use Rattle.lookahead.specs.View.{lookahead, clip-lookahead}
+use Rattle.scaled.specs.View.{scaled, clip-scaled}
 use Rattle.rounds.specs.Rounds.{cut-rounds}
 
 -- ---- a solver in a named form

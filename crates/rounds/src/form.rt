@@ -5,9 +5,9 @@ ghost use Rattle.polynomial.specs.Polynomial.{row};
 ghost use Rattle.iteration.specs.Length.{k-of};
 ghost use Rattle.rounds.specs.Solver.{form-of, Is, clip, k-in};
 use field::Gf;
-use solver::Lookahead;
-use solver::Plain;
-use solver::Scaled;
+use lookahead::Lookahead;
+use plain::Plain;
+use scaled::Scaled;
 
 // Document 01's plain, ahead and scaled.
 pub enum Form {
@@ -108,14 +108,14 @@ impl Solver {
         let l = self.lookahead;
         let c = self.scaled;
         match form {
-            Form::Plain => solver::swaps(p.discrepancy(r, s), p.length, r),
+            Form::Plain => swap::swaps(p.discrepancy(r, s), p.length, r),
             Form::Lookahead => {
                 let delta = l.delta;
-                solver::swaps(delta[0], l.length, r)
+                swap::swaps(delta[0], l.length, r)
             }
             Form::Scaled => {
                 let delta = c.delta;
-                solver::swaps(delta[0], c.length, r)
+                swap::swaps(delta[0], c.length, r)
             }
         }
     }
@@ -139,6 +139,6 @@ impl Solver {
     pub fn k(self, r: u8) -> i32
         ensures { λ k. ⌜ ((f : Form) (m : form-of f .State) → Is f r self m → k ≡ k-in f m) ⌝ }
     {
-        solver::k(self.length(), r)
+        swap::k(self.length(), r)
     }
 }

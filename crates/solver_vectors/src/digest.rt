@@ -1,8 +1,8 @@
 // A number that depends on all values given to it, in their order.
 use field::Gf;
-use solver::Lookahead;
-use solver::Plain;
-use solver::Scaled;
+use lookahead::Lookahead;
+use plain::Plain;
+use scaled::Scaled;
 
 pub fn mix(h: u64, x: u8) -> u64 {
     (h % 1000003 * 257 + x as u64 + 1) % 1000003

@@ -1,9 +1,9 @@
 // The fields of a line, each followed by what parts it from the next.
 ghost use Prim.Native.Nat.{_<_};
 use field::Gf;
-use solver::Lookahead;
-use solver::Plain;
-use solver::Scaled;
+use lookahead::Lookahead;
+use plain::Plain;
+use scaled::Scaled;
 
 fn number(n: u64, after: &[u8]) {
     io::print_decimal(1, n);

@@ -1,8 +1,8 @@
 -- The form that it has gives its Λ.
 use mathlib.Core.Path.{refl}
-use Rattle.solver.specs.PlainView.{plain}
-use Rattle.solver.specs.LookaheadView.{lookahead}
-use Rattle.solver.specs.ScaledView.{scaled}
+use Rattle.plain.specs.View.{plain}
+use Rattle.lookahead.specs.View.{lookahead}
+use Rattle.scaled.specs.View.{scaled}
 use Rattle.rounds.specs.Solver.{for-form}
 use Rattle.continuation.specs.End.{ended-locator}
 use borrow.Author.Needs.{needs}

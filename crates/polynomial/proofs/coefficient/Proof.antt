@@ -1,9 +1,7 @@
 -- Within the table it is the entry, from 48 on zero.
 use mathlib.Core.Path.{sym, _∙_}
-use native.Mathlib.Omega.{arith}
 use Rattle.field.specs.Field.{val-zero}
-use Rattle.series.specs.Array.{read-at}
-use Rattle.polynomial.specs.Polynomial.{below-row, row-values}
+use Rattle.polynomial.specs.Polynomial.{row-at, below-row}
 use borrow.Author.Needs.{needs}
 use Rattle.polynomial.proofs.coefficient.Statement.{statement}
 use Rattle.polynomial.proofs.coefficient.Tie as tie
@@ -12,7 +10,7 @@ array-copy-out-result : tie.Need-array-copy-out-result
 array-copy-out-result c = search needs
 
 returns : tie.Need-returns
-returns c = rw (row-values (c .before .before .args .t1) (omega arith)) (sym (read-at _ _ _ _))
+returns c = sym (row-at _ _ (c .before .if1 .taken))
 
 returns-2 : tie.Need-returns-2
 returns-2 c = val-zero ∙ sym (below-row (c .before .args .t1) _ (c .if1 .left))

@@ -1,17 +1,16 @@
 -- d is the sum of the first i terms. Those before first_term and from end_of_terms on are zero.
 use Prim.Native.Nat.{_+_, _-_, _≤_}
-use mathlib.Core.Path.{_≡_, sym, _∙_}
+use mathlib.Core.Path.{_≡_, refl, sym, ap₂, _∙_}
 use native.Mathlib.Omega.{arith}
-use Rattle.field.specs.Field.{val, val-zero}
-use Rattle.series.specs.Array.{values, read-at, below-values}
+use Rattle.field.specs.Field.{_⊕_, _⊙_, val, val-zero}
 use Rattle.polynomial.specs.Partial.{partial, partial-more, partial-early, partial-all}
-use Rattle.polynomial.specs.Polynomial.{poly-values, row-values}
+use Rattle.polynomial.specs.Polynomial.{poly, row, poly-at, row-at, below-poly, below-row}
 use borrow.Author.Needs.{needs}
 use Rattle.polynomial.proofs.convolve.Statement.{statement}
 use Rattle.polynomial.proofs.convolve.Tie as tie
 
 abbrev Inv-loop : tie.InvT-loop
-Inv-loop r f s end d₀ i₀ d i = (i ≤ r + 1) × (r ≤ i + 47) × (val d ≡ partial (values f) (values s) r i)
+Inv-loop r f s end d₀ i₀ d i = (i ≤ r + 1) × (r ≤ i + 47) × (val d ≡ partial (poly f) (row s) r i)
 
 abbrev μ-loop : tie.MeasureT-loop
 μ-loop r f s end d₀ i₀ d i = 49 - i
@@ -23,9 +22,7 @@ first-term-requires : tie.Need-first-term-requires Inv-loop μ-loop
 first-term-requires c κs = search needs
 
 loop-holds : tie.Need-loop-holds Inv-loop μ-loop
-loop-holds c =
-    let given = c .before .before .args in
-    (omega arith, omega arith, val-zero ∙ sym (partial-early 48 _ _ _ _ (below-values 48 (given .t2) (omega arith)) (omega arith)))
+loop-holds c = (omega arith, omega arith, val-zero ∙ sym (partial-early 48 _ _ _ _ (below-row _) (omega arith)))
 
 array-copy-out-product : tie.Need-array-copy-out-product Inv-loop μ-loop
 array-copy-out-product c = search needs
@@ -49,14 +46,18 @@ loop-less : tie.Need-loop-less Inv-loop μ-loop
 loop-less c = search needs
 
 loop-again : tie.Need-loop-again Inv-loop μ-loop
-loop-again c = (omega arith, omega arith, rw (partial-more, read-at, read-at) (cc))
+loop-again c =
+    let inv = c .before .before .before .before .before .loop .inv in (
+      omega arith,
+      omega arith,
+      c .sum .ensures ∙ ap₂ _⊕_ (inv .2) (c .before .product .ensures)
+          ∙ sym (partial-more _ _ _ _ ∙ ap₂ _⊕_ refl (ap₂ _⊙_ (poly-at _ _ (omega arith)) (row-at _ _ (omega arith)))),
+    )
 
 returns : tie.Need-returns Inv-loop μ-loop
 returns c =
-    let given = c .before .before .before .before .args in
     let end = c .before .loop in
-    rw (poly-values (given .t1) (omega arith), row-values (given .t2) (omega arith))
-    (end .inv .2 ∙ partial-all 49 _ _ _ (end .i) (below-values 49 (given .t1) (omega arith)) (end .inv .0) (λ h. omega arith))
+    end .inv .2 ∙ partial-all 49 _ _ _ (end .i) (below-poly _) (end .inv .0) (λ h. omega arith)
 
 pub convolve-spec : {M : Type 1} → statement M
 convolve-spec =

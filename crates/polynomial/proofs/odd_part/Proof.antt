@@ -3,14 +3,14 @@ use Prim.Native.Nat.{_+_, _-_, _%_}
 use mathlib.Core.Path.{_≡_, sym, _∙_}
 use native.Mathlib.Omega.{arith}
 use Rattle.series.specs.Value.{odd, odd-yes, odd-no, below-odd}
-use Rattle.series.specs.Array.{values, read-at, Filled, below-values, filled-none, filled-skip, filled-more, filled-all}
-use Rattle.polynomial.specs.Polynomial.{poly-values}
+use Rattle.series.specs.Array.{Filled, filled-none, filled-skip, filled-more}
+use Rattle.polynomial.specs.Polynomial.{poly, poly-at, below-poly, poly-filled}
 use borrow.Author.Needs.{needs}
 use Rattle.polynomial.proofs.odd_part.Statement.{statement}
 use Rattle.polynomial.proofs.odd_part.Tie as tie
 
 abbrev Inv-loop : tie.InvT-loop
-Inv-loop f out₀ i₀ out i = (i % 2 ≡ 1) × Filled 49 i (odd (values f)) out
+Inv-loop f out₀ i₀ out i = (i % 2 ≡ 1) × Filled 49 i (odd (poly f)) out
 
 abbrev μ-loop : tie.MeasureT-loop
 μ-loop f out₀ i₀ out i = 49 - i
@@ -33,19 +33,15 @@ loop-less c = search needs
 loop-again : tie.Need-loop-again Inv-loop μ-loop
 loop-again c =
     let turn = c .before in
-    let now = turn .before .loop in
-    let f = turn .before .before .args .t1 in (
+    let l = turn .loop-test .taken in
+    let now = turn .before .loop in (
       omega arith,
-      filled-skip _ (filled-more _ (now .inv .1) (omega arith) (sym (odd-yes (values f) (now .i) (now .inv .0) ∙ read-at _ _ _ _)))
-          (odd-no (values f) (now .i + 1) (omega arith)) (omega arith),
+      filled-skip _ (filled-more _ (now .inv .1) l (sym (odd-yes _ (now .i) (now .inv .0) ∙ poly-at _ _ l))) (odd-no _ (now .i + 1) (omega arith))
+          (omega arith),
     )
 
 returns : tie.Need-returns Inv-loop μ-loop
-returns c =
-    let f = c .before .before .args .t1 in
-    let filled = c .before .loop .inv .1 in
-    rw (poly-values _ (filled .long), poly-values f (omega arith))
-    (filled-all 49 filled (c .loop-test .left) (below-odd 49 _ (below-values 49 f (omega arith))))
+returns c = poly-filled 49 (c .before .loop .inv .1) (c .loop-test .left) (below-odd 49 _ (below-poly _))
 
 pub odd-part-spec : {M : Type 1} → statement M
 odd-part-spec =

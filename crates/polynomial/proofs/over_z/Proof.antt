@@ -1,17 +1,18 @@
 -- Entry i gets f[i + 1]. The top entry stays zero.
 use Prim.Native.Nat.{_-_}
+use mathlib.Core.Path.{sym, ap, _∙_}
 use native.Mathlib.Numerals.{add-one}
 use native.Mathlib.Omega.{arith}
 use Rattle.series.specs.Series.{tail, tail-at}
 use Rattle.series.specs.Degree.{below-tail}
-use Rattle.series.specs.Array.{values, read-at, Filled, below-values, filled-none, filled-more, filled-all}
-use Rattle.polynomial.specs.Polynomial.{poly-values}
+use Rattle.series.specs.Array.{Filled, filled-none, filled-more}
+use Rattle.polynomial.specs.Polynomial.{poly, poly-at, below-poly, poly-filled}
 use borrow.Author.Needs.{needs}
 use Rattle.polynomial.proofs.over_z.Statement.{statement}
 use Rattle.polynomial.proofs.over_z.Tie as tie
 
 abbrev Inv-loop : tie.InvT-loop
-Inv-loop f out₀ i₀ out i = Filled 49 i (tail (values f)) out
+Inv-loop f out₀ i₀ out i = Filled 49 i (tail (poly f)) out
 
 abbrev μ-loop : tie.MeasureT-loop
 μ-loop f out₀ i₀ out i = 49 - i
@@ -36,16 +37,11 @@ loop-less c = search needs
 
 loop-again : tie.Need-loop-again Inv-loop μ-loop
 loop-again c =
-    let turn = c .before in
-    let now = turn .before .loop in
-    filled-more _ (now .inv) (omega arith) (rw (tail-at, ← (add-one (now .i)), read-at))
+    let now = c .before .before .loop in
+    filled-more _ (now .inv) (omega arith) (sym (tail-at _ _ ∙ ap (poly _) (sym (add-one _)) ∙ poly-at _ _ (omega arith)))
 
 returns : tie.Need-returns Inv-loop μ-loop
-returns c =
-    let f = c .before .before .args .t1 in
-    let filled = c .before .loop .inv in
-    rw (poly-values _ (filled .long), poly-values f (omega arith))
-    (filled-all 48 filled (c .loop-test .left) (below-tail 48 _ (below-values 49 f (omega arith))))
+returns c = poly-filled 48 (c .before .loop .inv) (c .loop-test .left) (below-tail 48 _ (below-poly _))
 
 pub over-z-spec : {M : Type 1} → statement M
 over-z-spec =

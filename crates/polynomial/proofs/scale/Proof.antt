@@ -1,17 +1,17 @@
 -- Entry i gets a·f[i], coefficient i of the product.
 use Prim.Native.Nat.{_-_}
-use native.Mathlib.Omega.{arith}
-use Rattle.field.specs.Field.{val}
+use mathlib.Core.Path.{refl, sym, ap₂, _∙_}
+use Rattle.field.specs.Field.{_⊙_, val}
 use Rattle.series.specs.Series.{K, _⊠_, K-⊠-at}
 use Rattle.series.specs.Degree.{below-K-⊠}
-use Rattle.series.specs.Array.{values, read-at, Filled, below-values, filled-none, filled-more, filled-all}
-use Rattle.polynomial.specs.Polynomial.{poly-values}
+use Rattle.series.specs.Array.{Filled, filled-none, filled-more}
+use Rattle.polynomial.specs.Polynomial.{poly, poly-at, below-poly, poly-filled}
 use borrow.Author.Needs.{needs}
 use Rattle.polynomial.proofs.scale.Statement.{statement}
 use Rattle.polynomial.proofs.scale.Tie as tie
 
 abbrev Inv-loop : tie.InvT-loop
-Inv-loop a f out₀ i₀ out i = Filled 49 i (K (val a) ⊠ values f) out
+Inv-loop a f out₀ i₀ out i = Filled 49 i (K (val a) ⊠ poly f) out
 
 abbrev μ-loop : tie.MeasureT-loop
 μ-loop a f out₀ i₀ out i = 49 - i
@@ -37,14 +37,11 @@ loop-less c = search needs
 loop-again : tie.Need-loop-again Inv-loop μ-loop
 loop-again c =
     let turn = c .before .before in
-    filled-more _ (turn .before .loop .inv) (turn .loop-test .taken) (simp (K-⊠-at, read-at) (cc))
+    let l = turn .loop-test .taken in
+    filled-more _ (turn .before .loop .inv) l (c .product .ensures ∙ sym (K-⊠-at _ _ _ ∙ ap₂ _⊙_ refl (poly-at _ _ l)))
 
 returns : tie.Need-returns Inv-loop μ-loop
-returns c =
-    let f = c .before .before .args .t2 in
-    let filled = c .before .loop .inv in
-    rw (poly-values _ (filled .long), poly-values f (omega arith))
-    (filled-all 49 filled (c .loop-test .left) (below-K-⊠ 49 _ _ (below-values 49 f (omega arith))))
+returns c = poly-filled 49 (c .before .loop .inv) (c .loop-test .left) (below-K-⊠ 49 _ _ (below-poly _))
 
 pub scale-spec : {M : Type 1} → statement M
 scale-spec =

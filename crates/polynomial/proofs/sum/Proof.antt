@@ -1,16 +1,17 @@
 -- Entry i gets f[i] + g[i], coefficient i of the sum.
 use Prim.Native.Nat.{_-_}
-use native.Mathlib.Omega.{arith}
+use mathlib.Core.Path.{sym, ap₂, _∙_}
+use Rattle.field.specs.Field.{_⊕_}
 use Rattle.series.specs.Series.{_⊞_, ⊞-at}
 use Rattle.series.specs.Degree.{below-⊞}
-use Rattle.series.specs.Array.{values, read-at, Filled, below-values, filled-none, filled-more, filled-all}
-use Rattle.polynomial.specs.Polynomial.{poly-values}
+use Rattle.series.specs.Array.{Filled, filled-none, filled-more}
+use Rattle.polynomial.specs.Polynomial.{poly, poly-at, below-poly, poly-filled}
 use borrow.Author.Needs.{needs}
 use Rattle.polynomial.proofs.sum.Statement.{statement}
 use Rattle.polynomial.proofs.sum.Tie as tie
 
 abbrev Inv-loop : tie.InvT-loop
-Inv-loop f g out₀ i₀ out i = Filled 49 i (values f ⊞ values g) out
+Inv-loop f g out₀ i₀ out i = Filled 49 i (poly f ⊞ poly g) out
 
 abbrev μ-loop : tie.MeasureT-loop
 μ-loop f g out₀ i₀ out i = 49 - i
@@ -39,15 +40,11 @@ loop-less c = search needs
 loop-again : tie.Need-loop-again Inv-loop μ-loop
 loop-again c =
     let turn = c .before .before .before in
-    filled-more _ (turn .before .loop .inv) (turn .loop-test .taken) (simp (⊞-at, read-at) (cc))
+    let l = turn .loop-test .taken in
+    filled-more _ (turn .before .loop .inv) l (c .sum .ensures ∙ sym (⊞-at _ _ _ ∙ ap₂ _⊕_ (poly-at _ _ l) (poly-at _ _ l)))
 
 returns : tie.Need-returns Inv-loop μ-loop
-returns c =
-    let given = c .before .before .args in
-    let filled = c .before .loop .inv in
-    rw (poly-values _ (filled .long), poly-values (given .t1) (omega arith), poly-values (given .t2) (omega arith))
-    (filled-all 49 filled (c .loop-test .left)
-    (below-⊞ 49 _ _ (below-values 49 (given .t1) (omega arith)) (below-values 49 (given .t2) (omega arith))))
+returns c = poly-filled 49 (c .before .loop .inv) (c .loop-test .left) (below-⊞ 49 _ _ (below-poly _) (below-poly _))
 
 pub sum-spec : {M : Type 1} → statement M
 sum-spec =

@@ -1,19 +1,19 @@
 -- Entry i + 1 gets f[i], coefficient i + 1 of the product by z. Entry 0 stays zero.
 use Prim.Native.Nat.{_+_, _-_}
-use mathlib.Core.Path.{_∙_}
+use mathlib.Core.Path.{sym, ap, _∙_}
 use native.Mathlib.Numerals.{add-one}
 use native.Mathlib.Omega.{arith}
 use Rattle.series.specs.Series.{Z, _⊠_, Z-⊠-at0, Z-⊠-at}
 use Rattle.series.specs.Shift.{cut, cut-low}
 use Rattle.series.specs.Degree.{below-cut}
-use Rattle.series.specs.Array.{values, read-at, Filled, filled-none, filled-skip, filled-more, filled-all}
-use Rattle.polynomial.specs.Polynomial.{poly-values}
+use Rattle.series.specs.Array.{Filled, filled-none, filled-skip, filled-more}
+use Rattle.polynomial.specs.Polynomial.{poly, poly-at, poly-filled}
 use borrow.Author.Needs.{needs}
 use Rattle.polynomial.proofs.times_z.Statement.{statement}
 use Rattle.polynomial.proofs.times_z.Tie as tie
 
 abbrev Inv-loop : tie.InvT-loop
-Inv-loop f out₀ i₀ out i = Filled 49 (i + 1) (cut 49 (Z ⊠ values f)) out
+Inv-loop f out₀ i₀ out i = Filled 49 (i + 1) (cut 49 (Z ⊠ poly f)) out
 
 abbrev μ-loop : tie.MeasureT-loop
 μ-loop f out₀ i₀ out i = 49 - i
@@ -38,14 +38,12 @@ loop-less c = search needs
 
 loop-again : tie.Need-loop-again Inv-loop μ-loop
 loop-again c =
-    let turn = c .before in
-    let now = turn .before .loop in
-    filled-more _ (now .inv) (omega arith) (rw (cut-low 49 _ (now .i + 1) (omega arith), add-one, Z-⊠-at, read-at))
+    let now = c .before .before .loop in
+    filled-more _ (now .inv) (omega arith)
+    (sym (cut-low 49 _ (now .i + 1) (omega arith) ∙ ap (Z ⊠ _) (add-one _) ∙ Z-⊠-at _ _ ∙ poly-at _ _ (omega arith)))
 
 returns : tie.Need-returns Inv-loop μ-loop
-returns c =
-    let filled = c .before .loop .inv in
-    rw (poly-values _ (filled .long), poly-values (c .before .before .args .t1) (omega arith)) (filled-all 49 filled (omega arith) (below-cut 49 _))
+returns c = poly-filled 49 (c .before .loop .inv) (omega arith) (below-cut 49 _)
 
 pub times-z-spec : {M : Type 1} → statement M
 times-z-spec =

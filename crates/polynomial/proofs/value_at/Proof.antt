@@ -1,18 +1,17 @@
 -- v is the value of f divided by z^i, what stands below dropped.
 use Prim.Native.Nat.{_-_, _≤_}
-use mathlib.Core.Path.{_≡_, sym, _∙_}
+use mathlib.Core.Path.{_≡_, refl, sym, ap₂, _∙_}
 use native.Mathlib.Omega.{arith}
-use Rattle.field.specs.Field.{val, val-zero}
+use Rattle.field.specs.Field.{_⊕_, _⊙_, val, val-zero}
 use Rattle.series.specs.Shift.{drop, drop-none}
 use Rattle.series.specs.Value.{value, value-none, value-horner}
-use Rattle.series.specs.Array.{values, read-at}
-use Rattle.polynomial.specs.Polynomial.{poly-values}
+use Rattle.polynomial.specs.Polynomial.{poly, poly-at}
 use borrow.Author.Needs.{needs}
 use Rattle.polynomial.proofs.value_at.Statement.{statement}
 use Rattle.polynomial.proofs.value_at.Tie as tie
 
 abbrev Inv-loop : tie.InvT-loop
-Inv-loop x f v₀ i₀ v i = (i ≤ 49) × (val v ≡ value (49 - i) (drop i (values f)) (val x))
+Inv-loop x f v₀ i₀ v i = (i ≤ 49) × (val v ≡ value (49 - i) (drop i (poly f)) (val x))
 
 abbrev μ-loop : tie.MeasureT-loop
 μ-loop x f v₀ i₀ v i = i
@@ -38,14 +37,17 @@ loop-less c = search needs
 
 loop-again : tie.Need-loop-again Inv-loop μ-loop
 loop-again c =
-    let now = c .before .before .before .before .loop in
-    (omega arith, rw (value-horner 49 _ _ (now .i) (omega arith) (now .inv .0), read-at) (cc))
+    let now = c .before .before .before .before .loop in (
+      omega arith,
+      c .sum .ensures ∙ ap₂ _⊕_ (c .before .before .product .ensures ∙ ap₂ _⊙_ refl (now .inv .1)) refl
+          ∙ sym (value-horner 49 _ _ (now .i) (omega arith) (now .inv .0) ∙ ap₂ _⊕_ refl (poly-at _ _ (omega arith))),
+    )
 
 returns : tie.Need-returns Inv-loop μ-loop
 returns c =
     let end = c .before .loop in
     let e : end .i ≡ 0 = omega arith in
-    rw (poly-values (c .before .before .args .t1) (omega arith)) (rw (e, drop-none) at (end .inv .1))
+    rw (e, drop-none) at (end .inv .1)
 
 pub value-at-spec : {M : Type 1} → statement M
 value-at-spec =

@@ -1,57 +1,63 @@
--- The first i syndromes stand.
-use Prim.Native.Nat.{_-_, _≤_}
-use mathlib.Core.Path.{_≡_, ap, _∙_}
+use mathlib.Core.Path.{_≡_, sym, _∙_}
 use native.Mathlib.Omega.{arith}
 use lib.ListN.{length}
-use Rattle.series.specs.Shift.{cut}
-use Rattle.series.specs.Array.{bytes, Filled, filled-none, filled-more}
-use Rattle.polynomial.specs.Polynomial.{row-values}
-use Rattle.reed_solomon.specs.Definition.{syndrome}
+use lib.Seq.{length-take-le}
+use Rattle.polynomial.specs.Polynomial.{row-zeros}
+use Rattle.reed_solomon.specs.Residue.{residue-clean, residue-syndromes}
 use borrow.Author.Needs.{needs}
 use Rattle.reed_solomon.proofs.syndromes.Statement.{statement}
 use Rattle.reed_solomon.proofs.syndromes.Tie as tie
+use Rattle.reed_solomon.proofs.syndromes.Reads as reads
+use Rattle.reed_solomon.proofs.syndromes.Lts as lts
+use Rattle.reed_solomon.proofs.is_zero.Reads as is-zero-reads
+use Rattle.reed_solomon.proofs.residue.Reads as residue-reads
+use Rattle.reed_solomon.proofs.values.Reads as values-reads
 
-abbrev Inv-loop : tie.InvT-loop
-Inv-loop word k out₀ i₀ out i = (i ≤ k) × Filled 48 i (syndrome (length word) (bytes word)) out
+residue-requires : tie.Need-residue-requires
+residue-requires c κs = search needs
 
-abbrev μ-loop : tie.MeasureT-loop
-μ-loop word k out₀ i₀ out i = k - i
+slice-aggregate-is-zero : tie.Need-slice-aggregate-is-zero
+slice-aggregate-is-zero c = search needs
 
-loop-holds : tie.Need-loop-holds Inv-loop μ-loop
-loop-holds c = (search needs, filled-none 48 _)
+is-zero-requires : tie.Need-is-zero-requires
+is-zero-requires c κs = search needs
 
-syndrome-requires : tie.Need-syndrome-requires Inv-loop μ-loop
-syndrome-requires c κs = search needs
-
-array-set-from-out : tie.Need-array-set-from-out Inv-loop μ-loop
-array-set-from-out c = search needs
-
-add-i : tie.Need-add-i Inv-loop μ-loop
-add-i c = search needs
-
-loop-less : tie.Need-loop-less Inv-loop μ-loop
-loop-less c = search needs
-
-loop-again : tie.Need-loop-again Inv-loop μ-loop
-loop-again c = (omega arith, filled-more _ (c .before .before .loop .inv .1) (omega arith) (c .syndrome .ensures))
-
-returns : tie.Need-returns Inv-loop μ-loop
+returns : tie.Need-returns
 returns c =
-    let end = c .before .loop in
-    let word = c .before .before .before .args .word .now in
-    let e : end .i ≡ c .before .before .before .args .k = omega (arith, end .inv .0) in
-    row-values _ (end .inv .1 .long) ∙ end .inv .1 .is ∙ ap (λ i. cut i (syndrome (length word) (bytes word))) e
+    let given = c .before .before .before .before .before .before in
+    let zero = sym (c .before .before .before .residue .ensures) ∙ c .before .is-zero .ensures .0 (c .if1 .taken) in
+    row-zeros ∙ residue-clean (length (given .args .word .now)) (given .args .k) _ (omega (arith, given .pre .1)) (given .pre .2) zero
+
+array-share-prefix-r : tie.Need-array-share-prefix-r
+array-share-prefix-r c = search needs
+
+slice-aggregate-values : tie.Need-slice-aggregate-values
+slice-aggregate-values c =
+    let given = c .before .before .before .before .before .before .before in
+    let long : length (c .before .before .before .before .residue .result) ≡ 48 = search needs in
+    sym (length-take-le (given .args .k) (c .before .before .before .before .residue .result) (omega (arith, long, given .pre .1)))
+
+values-requires : tie.Need-values-requires
+values-requires c κs = search needs
+
+returns-2 : tie.Need-returns-2
+returns-2 c =
+    let given = c .before .before .before .before .before .before .before .before in
+    let residue = c .before .before .before .before .before .residue in
+    let long : length (residue .result) ≡ 48 = search needs in
+    c .values .ensures
+    ∙ residue-syndromes (length (given .args .word .now)) (given .args .k) _ (omega (arith, given .pre .1)) (given .pre .2) (residue .result)
+    (omega (arith, long, given .pre .1)) (residue .ensures)
 
 pub syndromes-spec : {M : Type 1} → statement M
 syndromes-spec =
     tie.close
     (tie.spec
-    Inv-loop
-    μ-loop
-    loop-holds
-    syndrome-requires
-    array-set-from-out
-    add-i
-    loop-less
-    loop-again
-    returns)
+    residue-requires
+    slice-aggregate-is-zero
+    is-zero-requires
+    returns
+    array-share-prefix-r
+    slice-aggregate-values
+    values-requires
+    returns-2)

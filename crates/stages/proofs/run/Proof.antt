@@ -7,7 +7,7 @@ use lib.ListN.{length}
 use Rattle.series.specs.Series.{Series}
 use Rattle.series.specs.Array.{bytes}
 use Rattle.profile.specs.Definition.{capability}
-use Rattle.profile.specs.Valid.{capability-most}
+use Rattle.profile.specs.Valid.{capability-mono, capability-most}
 use Rattle.code.specs.Check.{Fits, received}
 use Rattle.rounds.specs.declared.form.Form.{Form}
 use Rattle.stages.specs.View.{Reached}
@@ -36,7 +36,8 @@ mul-syndromes c = search needs
 syndromes-requires : tie.Need-syndromes-requires Inv-loop μ-loop
 syndromes-requires c κs =
     let given = c .before .before .before in
-    (given .pre, omega (arith, c .capability .ensures, capability-most (given .args .p) (given .pre .valid) 0 (omega arith)))
+    let ok = given .pre .valid in
+    (given .pre, omega (arith, c .capability .ensures, capability-most (given .args .p) ok 0 (omega arith)), omega (arith, c .capability .ensures, ok .length .0, capability-mono (given .args .p) ok 0 (given .args .p .nested) (omega arith) (omega arith)))
 
 start-requires : tie.Need-start-requires Inv-loop μ-loop
 start-requires c κs = search needs

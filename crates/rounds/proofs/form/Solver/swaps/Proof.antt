@@ -4,9 +4,9 @@ use native.Mathlib.Omega.{arith}
 use Rattle.iteration.specs.Shared.{swaps}
 use Rattle.iteration.specs.Length.{k-of}
 use Rattle.polynomial.specs.Polynomial.{poly-at}
-use Rattle.solver.specs.PlainView.{plain}
-use Rattle.solver.specs.LookaheadView.{lookahead}
-use Rattle.solver.specs.ScaledView.{scaled}
+use Rattle.plain.specs.View.{plain}
+use Rattle.lookahead.specs.View.{lookahead}
+use Rattle.scaled.specs.View.{scaled}
 use Rattle.rounds.specs.Solver.{for-form}
 use borrow.Author.Needs.{needs}
 use Rattle.rounds.proofs.form.Solver.swaps.Statement.{statement}

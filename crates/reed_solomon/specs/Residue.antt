@@ -1,0 +1,74 @@
+-- The remainder of a word by the generator of k roots, and what it tells of the word.
+--
+--   residue n k w   that remainder: what the first k symbols of w differ by from the check symbols that the others ask for
+--
+-- Proved: symbol by symbol it is found from the check symbols (residue-at); it has the word's first k syndromes (residue-syndrome, residue-syndromes),
+-- so a word whose remainder is zero has none (residue-clean). An array of bytes is zero or not (all-zero, some-byte).
+use Prim.Native.Nat.{ℕ, _≤_, _<_}
+use mathlib.Core.Path.{_≡_, sym, ap, ap₂, _∙_, fun-ext}
+use mathlib.Core.Logic.{_≢_, by-cases}
+use mathlib.Core.List.{List}
+use native.Mathlib.Decide.{decLt}
+use native.Mathlib.Omega.{arith}
+use lib.ListN.{length, getD, take}
+use lib.Seq.{length-take-le}
+use Rattle.field.specs.Field.{F, _⊕_, of, of-zero, of-nonzero, ⊕-zero, zero-⊕, ⊕-group}
+use Rattle.series.specs.Series.{Series, O, O-at, _⊞_, ⊞-at}
+use Rattle.series.specs.Shift.{cut, cut-low, cut-unique}
+use Rattle.series.specs.Degree.{below, below-cut, below-⊞}
+use Rattle.series.specs.Array.{bytes, read-at, below-read}
+use Rattle.series.specs.Part.{read-take}
+use Rattle.series.specs.Value.{value, value-more, value-cong, value-zero}
+use Rattle.kernel.specs.Store.{cut-cong}
+use Rattle.reed_solomon.specs.Definition.{root, syndrome, check-symbols, systematic}
+use Rattle.reed_solomon.specs.Systematic.{syndrome-is, syndrome-cong, syndrome-⊞, below-check-symbols, systematic-low, systematic-data, systematic-zero}
+
+unfoldable pub residue : ℕ → ℕ → Series → Series
+residue n k w = cut k w ⊞ check-symbols n k w
+
+pub residue-at : (n k : ℕ) (w : Series) (i : ℕ) → i < k → residue n k w i ≡ w i ⊕ check-symbols n k w i
+unfolding residue
+residue-at n k w i h = ⊞-at _ _ i ∙ ap (λ (s : F). s ⊕ check-symbols n k w i) (cut-low k w i h)
+
+pub below-residue : (n k : ℕ) (w : Series) → below k (residue n k w)
+unfolding residue
+below-residue n k w = below-⊞ k _ _ (below-cut k w) (below-check-symbols n k w)
+
+module _ (n k : ℕ) (w : Series) (small : k < 255) (room : k ≤ n) where
+  -- the word is its residue and a word of the code
+  word-is : (i : ℕ) → w i ≡ (residue n k w ⊞ systematic n k w) i
+  word-is i = go (decLt i k)
+    where
+      go : Dec (i < k) → w i ≡ (residue n k w ⊞ systematic n k w) i
+      go (yes h) = sym (⊞-at _ _ i ∙ ap₂ _⊕_ (residue-at n k w i h) (systematic-low n k w i h) ∙ simp ⊕-group)
+      go (no h) = sym (⊞-at _ _ i ∙ ap₂ _⊕_ (below-residue n k w i (omega arith)) (systematic-data n k w i (omega arith)) ∙ zero-⊕ (w i))
+
+  pub residue-syndrome : (j : ℕ) → j < k → value k (residue n k w) (root j) ≡ syndrome n w j
+  residue-syndrome j h =
+      sym (syndrome-cong n w _ (λ i l. word-is i) j
+      ∙ syndrome-⊞ n _ _ j
+      ∙ ap₂ _⊕_ (syndrome-is n _ j ∙ value-more k n _ (root j) (below-residue n k w) room) (systematic-zero n k w small room j h)
+      ∙ ⊕-zero _)
+
+  -- of a clean word
+  pub residue-clean : residue n k w ≡ O → O ≡ cut k (syndrome n w)
+  residue-clean z =
+      sym (cut-unique k (syndrome n w) O (λ j h. sym (residue-syndrome j h) ∙ rw z (value-zero k O (root j) (λ i _. O-at i)) ∙ sym (O-at j)) (λ j _. O-at j))
+
+  -- from the array that holds it
+  pub residue-syndromes : (r : List ℕ) → k ≤ length r → bytes r ≡ residue n k w
+      → cut k (syndrome (length (take k r)) (bytes (take k r))) ≡ cut k (syndrome n w)
+  residue-syndromes r long e =
+      cut-cong k _ _ (λ j h.
+      ap (λ (m : ℕ). syndrome m (bytes (take k r)) j) (length-take-le k r long)
+      ∙ syndrome-is k _ j
+      ∙ value-cong k _ _ (root j) (λ i l. read-take of 0 k r i l ∙ ap (λ (f : Series). f i) e)
+      ∙ residue-syndrome j h)
+
+-- ---- zero or not
+
+pub all-zero : (l : List ℕ) → ((j : ℕ) → j < length l → getD l j 0 ≡ 0) → bytes l ≡ O
+all-zero l h = fun-ext (λ j. by-cases (decLt j (length l)) (λ k. read-at of 0 l j ∙ ap of (h j k) ∙ of-zero) (λ k. below-read of 0 of-zero l j (omega arith)) ∙ sym (O-at j))
+
+pub some-byte : (l : List ℕ) (i : ℕ) → getD l i 0 ≢ 0 → getD l i 0 < 256 → bytes l ≢ O
+some-byte l i h small e = of-nonzero (getD l i 0) small h (sym (read-at of 0 l i) ∙ ap (λ (f : Series). f i) e ∙ O-at i)
