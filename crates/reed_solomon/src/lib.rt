@@ -105,12 +105,12 @@ pub fn residue(t: &[u64], k: usize, word: &[u8]) -> [u8; SYNDROMES]
 {
     let r = division::remainder(t, word, k);
     let checks = division::unpack(r);
-    let s = 48 - k;
+    let above = 48 - k;
     let mut out = [0u8; SYNDROMES];
-    let mut p: usize = 0;
-    while p < k {
-        out[p] = word[p] ^ checks[s + p];
-        p += 1;
+    let mut q: usize = 0;
+    while q < k {
+        out[q] = word[q] ^ checks[above + q];
+        q += 1;
     }
     out
 }

@@ -1,4 +1,4 @@
--- The first p symbols of the remainder stand.
+-- The first q symbols of the remainder stand.
 use Prim.Native.Nat.{_+_, _-_, _≤_}
 use mathlib.Core.Path.{_≡_, sym, ap, ap₂, _∙_}
 use native.Mathlib.Omega.{arith}
@@ -19,10 +19,10 @@ use Rattle.division.proofs.remainder.Reads as remainder-reads
 use Rattle.division.proofs.unpack.Reads as unpack-reads
 
 abbrev Inv-loop : tie.InvT-loop
-Inv-loop t k word checks s out₀ p₀ out p = (p ≤ k) × (length out ≡ 48) × (bytes out ≡ cut p (residue (length word) k (bytes word)))
+Inv-loop t k word checks above out₀ q₀ out q = (q ≤ k) × (length out ≡ 48) × (bytes out ≡ cut q (residue (length word) k (bytes word)))
 
 abbrev μ-loop : tie.MeasureT-loop
-μ-loop t k word checks s out₀ p₀ out p = k - p
+μ-loop t k word checks above out₀ q₀ out q = k - q
 
 remainder-requires : tie.Need-remainder-requires Inv-loop μ-loop
 remainder-requires c κs = (c .before .before .pre .0 .multiples, c .before .before .pre .2)
@@ -30,8 +30,8 @@ remainder-requires c κs = (c .before .before .pre .0 .multiples, c .before .bef
 unpack-requires : tie.Need-unpack-requires Inv-loop μ-loop
 unpack-requires c κs = search needs
 
-sub-s : tie.Need-sub-s Inv-loop μ-loop
-sub-s c = search needs
+sub-above : tie.Need-sub-above Inv-loop μ-loop
+sub-above c = search needs
 
 loop-holds : tie.Need-loop-holds Inv-loop μ-loop
 loop-holds c = (omega arith, search needs, read-zeros of 0 of-zero 48 _)
@@ -48,8 +48,8 @@ array-read-out c = search needs
 array-write-out : tie.Need-array-write-out Inv-loop μ-loop
 array-write-out c = search needs
 
-add-p : tie.Need-add-p Inv-loop μ-loop
-add-p c = search needs
+add-q : tie.Need-add-q Inv-loop μ-loop
+add-q c = search needs
 
 loop-less : tie.Need-loop-less Inv-loop μ-loop
 loop-less c = search needs
@@ -64,18 +64,18 @@ loop-again c =
     let checks =
     ap (drop (48 - k)) (unpack .ensures ∙ c .before .before .before .before .remainder .ensures)
     ∙ remainder-checks (length word) k (given .args .t .now) (bytes word) (given .pre .1) (given .pre .2) (given .pre .0) in
-    let check = sym (drop-at (48 - k) (bytes (unpack .result)) (now .p) ∙ read-at of 0 (unpack .result) (48 - k + now .p)) ∙ ap (λ (f : Series). f (now .p)) checks in (
+    let check = sym (drop-at (48 - k) (bytes (unpack .result)) (now .q) ∙ read-at of 0 (unpack .result) (48 - k + now .q)) ∙ ap (λ (f : Series). f (now .q)) checks in (
       omega arith,
-      length-set (now .out) (now .p) _ ∙ now .inv .1,
-      read-store of 0 (now .out) (now .p) _ _ (omega (arith, now .inv .1, given .pre .1)) (now .inv .2)
-          (of-xor _ _ ∙ ap₂ _⊕_ (sym (read-at of 0 word (now .p))) check ∙ sym (residue-at (length word) k (bytes word) (now .p) (omega arith))),
+      length-set (now .out) (now .q) _ ∙ now .inv .1,
+      read-store of 0 (now .out) (now .q) _ _ (omega (arith, now .inv .1, given .pre .1)) (now .inv .2)
+          (of-xor _ _ ∙ ap₂ _⊕_ (sym (read-at of 0 word (now .q))) check ∙ sym (residue-at (length word) k (bytes word) (now .q) (omega arith))),
     )
 
 returns : tie.Need-returns Inv-loop μ-loop
 returns c =
     let end = c .before .loop in
     let given = c .before .before .before .before .before .before in
-    let e : end .p ≡ given .args .k = omega arith in
+    let e : end .q ≡ given .args .k = omega arith in
     end .inv .2
     ∙ ap (λ p. cut p (residue (length (given .args .word .now)) (given .args .k) (bytes (given .args .word .now)))) e
     ∙ below-cut-eq (given .args .k) _ (below-residue _ (given .args .k) _)
@@ -88,13 +88,13 @@ residue-spec =
     μ-loop
     remainder-requires
     unpack-requires
-    sub-s
+    sub-above
     loop-holds
     shared-slice-read-out
     add-out
     array-read-out
     array-write-out
-    add-p
+    add-q
     loop-less
     loop-again
     returns)

@@ -1,0 +1,71 @@
+/* Writes a block, damages it, reads it back and fetches a strip. ../rust/main.rs is the same program; ../expected is what both print. */
+#include <stdio.h>
+#include <stdlib.h>
+#include <string.h>
+
+#include "gii.h"
+
+static const uint8_t profile[7] = {8, 3, 255, 14, 16, 18, 24};
+
+/* Changes the first `count` bytes of strip i. */
+static void damage(uint8_t *block, size_t i, size_t count) {
+    for (size_t p = 0; p < count; p++)
+        block[255 * i + p] ^= (uint8_t)(p + 1);
+}
+
+/* Reads a damaged block, and says whether it is the one that was written. */
+static void read_back(const uint8_t *damaged, const uint8_t *written, size_t size, uint8_t form) {
+    uint8_t report[GII_REPORT];
+    uint8_t *out = calloc(size, 1);
+    uint8_t number = gii_decode(profile, sizeof profile, damaged, size, out, size, form, report, sizeof report);
+    if (number == GII_OK) {
+        printf("read %d: last stage %d, %d bytes changed, %s\n", number, report[1], 256 * report[2] + report[3],
+               memcmp(out, written, size) == 0 ? "as written" : "not as written");
+        for (int i = 0; i < 8; i++)
+            if (report[4 + 3 * i] == 1)
+                printf("  strip %d: %d bytes changed, settled at stage %d\n", i, report[5 + 3 * i], report[6 + 3 * i]);
+    } else {
+        printf("refused %d after stage %d\n", number, report[0]);
+    }
+    free(out);
+}
+
+int main(void) {
+    size_t data_size = gii_data_size(profile, sizeof profile);
+    size_t size = gii_block_size(profile, sizeof profile);
+    printf("sizes %zu %zu\n", data_size, size);
+
+    uint8_t *data = malloc(data_size), *written = malloc(size), *damaged = malloc(size);
+    for (size_t k = 0; k < data_size; k++)
+        data[k] = (uint8_t)(7 * k + 3);
+    printf("write %d\n", gii_encode(profile, sizeof profile, data, data_size, written, size));
+
+    memcpy(damaged, written, size);
+    damage(damaged, 0, 5);
+    damage(damaged, 3, 16);
+    damage(damaged, 6, 20);
+    read_back(damaged, written, size, GII_PLAIN);
+    read_back(damaged, written, size, GII_LOOKAHEAD);
+    read_back(damaged, written, size, GII_SCALED);
+
+    size_t start = gii_fetch_start(profile, sizeof profile, written, size, 1);
+    size_t part = gii_fetch_size(profile, sizeof profile, written, size, 1);
+    printf("fetch %d: %zu bytes from %zu, %s\n", gii_fetch(profile, sizeof profile, written, size, 1), part, start,
+           memcmp(written + start, data + gii_fetch_size(profile, sizeof profile, written, size, 0), part) == 0 ? "the data" : "not the data");
+
+    /* Three strips with more changes than any strength: after stage 1 there may be two. */
+    memcpy(damaged, written, size);
+    damage(damaged, 1, 30);
+    damage(damaged, 2, 30);
+    damage(damaged, 4, 30);
+    read_back(damaged, written, size, GII_PLAIN);
+
+    printf("refused %d: no strip 8\n", gii_fetch(profile, sizeof profile, written, size, 8));
+    printf("refused %d: a profile of six bytes, size %zu\n", gii_encode(profile, 6, data, data_size, written, size), gii_data_size(profile, 6));
+    printf("refused %d: nothing at all\n", gii_decode(NULL, 0, NULL, 0, NULL, 0, GII_PLAIN, NULL, 0));
+
+    free(data);
+    free(written);
+    free(damaged);
+    return 0;
+}
