@@ -15,8 +15,8 @@ use Rattle.series.specs.Word.{word}
 use Rattle.iteration.specs.Run.{joined}
 use Rattle.profile.specs.declared.Profile.{Profile}
 use Rattle.profile.specs.Definition.{capability}
-use Rattle.rounds.specs.declared.form.Form.{Form}
-use Rattle.rounds.specs.declared.form.Solver.{Solver}
+use Rattle.solver.specs.declared.Form.{Form}
+use Rattle.solver.specs.declared.Solver.{Solver}
 use Rattle.settle.specs.Definition.{settle}
 use Rattle.subword.specs.declared.Settled.{Settled}
 use Rattle.subword.specs.Answer.{answer, Sound}

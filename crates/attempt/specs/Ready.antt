@@ -15,9 +15,9 @@ use Rattle.iteration.specs.Ends.{finish}
 use Rattle.profile.specs.declared.Profile.{Profile}
 use Rattle.profile.specs.Definition.{capability}
 use Rattle.profile.specs.Valid.{Valid}
-use Rattle.rounds.specs.declared.form.Form.{Form}
-use Rattle.rounds.specs.declared.form.Solver.{Solver}
-use Rattle.rounds.specs.Solver.{form-of, Is}
+use Rattle.solver.specs.declared.Form.{Form}
+use Rattle.solver.specs.declared.Solver.{Solver}
+use Rattle.solver.specs.Solver.{form-of, Is}
 use Rattle.settle.specs.Definition.{settle}
 use Rattle.subword.specs.declared.Settled.{Settled}
 use Rattle.subword.specs.Answer.{answer, Sound}

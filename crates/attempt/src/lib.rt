@@ -14,8 +14,8 @@ ghost use Rattle.attempt.specs.Zero.{zero?};
 use field::Gf;
 use polynomial::SYNDROMES;
 use profile::Profile;
-use rounds::Form;
-use rounds::Solver;
+use solver::Form;
+use solver::Solver;
 use subword::Settled;
 
 // The solver after the stage, kept for the next one, and what it found.

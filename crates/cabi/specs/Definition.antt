@@ -23,8 +23,8 @@ use Rattle.profile.specs.declared.Answer.{Answer}
 use Rattle.profile.specs.declared.Answer.the-variants as answer
 use Rattle.profile.specs.Definition.{checks}
 use Rattle.fetch.specs.Definition.{between, part}
-use Rattle.rounds.specs.declared.form.Form.{Form}
-use Rattle.rounds.specs.declared.form.Form.the-variants.{Plain, Lookahead, Scaled}
+use Rattle.solver.specs.declared.Form.{Form}
+use Rattle.solver.specs.declared.Form.the-variants.{Plain, Lookahead, Scaled}
 use Rattle.staged.specs.Definition.{Line, clean, corrected}
 use Rattle.decoder.specs.Definition.{Result, answer-to, report-of}
 

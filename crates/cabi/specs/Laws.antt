@@ -26,8 +26,8 @@ use Rattle.profile.specs.Definition.{profile-of, answer-of, block-size, data-si
 use Rattle.profile.specs.Laws.{ask-yes}
 use Rattle.profile.specs.Valid.{Valid, profile-valid, checks-room, data-start-most}
 use Rattle.fetch.specs.Definition.{fetching, part, empty, refuses}
-use Rattle.rounds.specs.declared.form.Form.{Form}
-use Rattle.rounds.specs.declared.form.Form.the-variants.{Plain}
+use Rattle.solver.specs.declared.Form.{Form}
+use Rattle.solver.specs.declared.Form.the-variants.{Plain}
 use Rattle.staged.specs.Definition.{Line}
 use Rattle.stages.specs.declared.Line as stages
 use Rattle.stages.specs.View.{verdict-of, says}

@@ -17,7 +17,7 @@ use profile::Answer;
 use profile::Parsed;
 use profile::Profile;
 use profile::Refusal;
-use rounds::Form;
+use solver::Form;
 use stages::Line;
 use stages::Verdict;
 

@@ -15,9 +15,9 @@ use Rattle.series.specs.Degree.{below}
 use Rattle.series.specs.Word.{word}
 use Rattle.iteration.specs.Run.{joined, events, after}
 use Rattle.iteration.specs.Ends.{finish}
-use Rattle.rounds.specs.declared.form.Form.{Form}
-use Rattle.rounds.specs.declared.form.Solver.{Solver}
-use Rattle.rounds.specs.Solver.{form-of, Is}
+use Rattle.solver.specs.declared.Form.{Form}
+use Rattle.solver.specs.declared.Solver.{Solver}
+use Rattle.solver.specs.Solver.{form-of, Is}
 
 unfoldable pub Ended : Form → List (List F) → Solver → Type 0
 Ended f rounds s = Is f (length (joined rounds)) s (finish (form-of f) rounds .state)

@@ -20,10 +20,10 @@ use Rattle.iteration.specs.Measure.{factors-nonzero, measure-agree}
 use Rattle.iteration.specs.Ends.{finish, plain-end, lookahead-end, scaled-end, scaled-end-Λ}
 use Rattle.iteration.specs.Shortest as Shortest
 use Rattle.settle.specs.Candidate.{Multiple}
-use Rattle.rounds.specs.declared.form.Form.{Form}
-use Rattle.rounds.specs.declared.form.Form.the-variants.{Plain, Lookahead, Scaled}
-use Rattle.rounds.specs.declared.form.Solver.{Solver}
-use Rattle.rounds.specs.Solver.{form-of, Is, k-in}
+use Rattle.solver.specs.declared.Form.{Form}
+use Rattle.solver.specs.declared.Form.the-variants.{Plain, Lookahead, Scaled}
+use Rattle.solver.specs.declared.Solver.{Solver}
+use Rattle.solver.specs.Solver.{form-of, Is, k-in}
 use Rattle.continuation.specs.Definition.{Ended}
 
 abbrev pub Λ-in : (f : Form) → form-of f .State → Series

@@ -17,9 +17,9 @@ use Rattle.profile.specs.Definition.{capability}
 use Rattle.profile.specs.Valid.{Valid, capability-most}
 use Rattle.staged.specs.Definition.{round-of, rounds-of}
 use Rattle.staged.specs.Rounds.{rounds-joined, rounds-cong}
-use Rattle.rounds.specs.declared.form.Form.{Form}
-use Rattle.rounds.specs.declared.form.Solver.{Solver}
-use Rattle.rounds.specs.Solver.{form-of, Is}
+use Rattle.solver.specs.declared.Form.{Form}
+use Rattle.solver.specs.declared.Solver.{Solver}
+use Rattle.solver.specs.Solver.{form-of, Is}
 use Rattle.continuation.specs.Definition.{Ended, Next, Advanced, ended-start}
 
 module _ (p : Profile) (ok : Valid p) (f : Form) (S : Series) (s q : Solver) where

@@ -23,10 +23,10 @@ use Rattle.iteration.specs.Measure.{measure-γ, factors-nonzero, measure-agree,
 use Rattle.iteration.specs.Walk.{Keeps, run-state}
 use Rattle.iteration.specs.Agreement.{plain-keeps, lookahead-keeps, scaled-keeps}
 use Rattle.iteration.specs.Ends.{finish, finish-is, joined-append}
-use Rattle.rounds.specs.declared.form.Form.{Form}
-use Rattle.rounds.specs.declared.form.Form.the-variants.{Plain, Lookahead, Scaled}
-use Rattle.rounds.specs.declared.form.Solver.{Solver}
-use Rattle.rounds.specs.Solver.{form-of, state-of, Is, clip, clip-run}
+use Rattle.solver.specs.declared.Form.{Form}
+use Rattle.solver.specs.declared.Form.the-variants.{Plain, Lookahead, Scaled}
+use Rattle.solver.specs.declared.Solver.{Solver}
+use Rattle.solver.specs.Solver.{form-of, state-of, Is, clip, clip-run}
 use Rattle.continuation.specs.Definition.{Ended, Next}
 
 -- ---- the state

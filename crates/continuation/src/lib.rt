@@ -13,8 +13,8 @@ ghost use Rattle.continuation.specs.Definition.{Ended, Advanced};
 use field::Gf;
 use polynomial::COEFFICIENTS;
 use polynomial::SYNDROMES;
-use rounds::Form;
-use rounds::Solver;
+use solver::Form;
+use solver::Solver;
 
 // Takes the solver through one more round: syndromes `from` to `to` - 1 of the row, which is zero past these.
 pub fn advance(s: Solver, from: u8, to: u8, row: [Gf; SYNDROMES]) -> Solver

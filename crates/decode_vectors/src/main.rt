@@ -27,7 +27,7 @@ use profile::Answer;
 use profile::Parsed;
 use profile::Profile;
 use profile::Refusal;
-use rounds::Form;
+use solver::Form;
 
 // What an output holds before a block is read.
 const BEFORE: u8 = 170;

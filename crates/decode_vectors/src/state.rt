@@ -4,9 +4,9 @@ use crate::print;
 use field::Gf;
 use lookahead::Lookahead;
 use plain::Plain;
-use rounds::Form;
-use rounds::Solver;
 use scaled::Scaled;
+use solver::Form;
+use solver::Solver;
 
 fn value(x: Gf) {
     print::number(x.0 as usize);

@@ -25,7 +25,7 @@ use Rattle.profile.specs.declared.Parsed.the-variants.{Accepted, Refused}
 use Rattle.profile.specs.declared.Answer.{Answer}
 use Rattle.profile.specs.declared.Answer.the-variants as answer
 use Rattle.profile.specs.Definition.{profile-of, ask, block-size}
-use Rattle.rounds.specs.declared.form.Form.{Form}
+use Rattle.solver.specs.declared.Form.{Form}
 use Rattle.continuation.specs.Definition.{Ended}
 use Rattle.staged.specs.Definition as staged
 use Rattle.staged.specs.Definition.{Outcome, accepted, failed, foreign, decode}

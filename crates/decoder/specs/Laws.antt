@@ -25,7 +25,7 @@ use Rattle.profile.specs.Definition.{profile-of, ask, block-size}
 use Rattle.profile.specs.Laws.{ask-yes}
 use Rattle.profile.specs.Valid.{Valid, profile-read, profile-valid}
 use Rattle.code.specs.Encoding.{codeword?}
-use Rattle.rounds.specs.declared.form.Form.{Form}
+use Rattle.solver.specs.declared.Form.{Form}
 use Rattle.staged.specs.Definition.{total, count-of, settled, report, decode}
 use Rattle.staged.specs.Count.{total-cong}
 use Rattle.staged.specs.Clean.{untouched}

@@ -31,7 +31,7 @@ use Rattle.profile.specs.Laws.{ask-yes}
 use Rattle.profile.specs.Valid.{Valid, profile-valid}
 use Rattle.code.specs.Definition.{Codeword}
 use Rattle.code.specs.Block.{agree-block, codeword-cong}
-use Rattle.rounds.specs.declared.form.Form.{Form}
+use Rattle.solver.specs.declared.Form.{Form}
 use Rattle.continuation.specs.Definition.{Ended}
 use Rattle.staged.specs.Definition as staged
 use Rattle.staged.specs.Definition.{Outcome, accepted, failed, foreign, decode}

@@ -14,7 +14,7 @@ use profile::Answer;
 use profile::Parsed;
 use profile::Profile;
 use profile::Refusal;
-use rounds::Form;
+use solver::Form;
 use stages::Ending;
 use stages::Line;
 use stages::Verdict;

@@ -1,4 +1,4 @@
--- Solver has the definitions that the promises speak of, with Rounds; Turn proves them.
+-- Run has the definitions that the promises speak of, with Rounds; Turn proves them.
 pub mod Rounds
-pub mod Solver
+pub mod Run
 pub mod Turn

@@ -21,12 +21,13 @@ use Rattle.field.specs.Field.{F}
 use Rattle.series.specs.Word.{entry}
 use Rattle.polynomial.specs.Polynomial.{row}
 use Rattle.iteration.specs.Run.{At, outset, note, happen, iteration, entering, run}
-use Rattle.rounds.specs.declared.form.Form.{Form}
-use Rattle.rounds.specs.declared.form.Solver.{Solver}
-use Rattle.rounds.specs.declared.walk.Progress.{Progress}
-use Rattle.rounds.specs.declared.walk.Walk.{Walk}
+use Rattle.solver.specs.declared.Form.{Form}
+use Rattle.solver.specs.declared.Solver.{Solver}
+use Rattle.solver.specs.Solver.{form-of, state-of, Is, clip, clip-run}
+use Rattle.rounds.specs.declared.Progress.{Progress}
+use Rattle.rounds.specs.declared.Walk.{Walk}
 use Rattle.rounds.specs.Rounds.{cut-rounds, length-cut, Here, here-start, here-run, here-iterate, here-enter, here-end}
-use Rattle.rounds.specs.Solver.{form-of, state-of, Is, clip, clip-run, at-of, Ran, ran}
+use Rattle.rounds.specs.Run.{at-of, Ran, ran}
 
 pub record Going (rounds : ℕ) (w : Walk) : Type 0 where
   pub left : w .progress .iterations ≤ w .known

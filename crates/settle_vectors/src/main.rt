@@ -10,8 +10,8 @@ mod print;
 ghost use Prim.Native.Nat.{_≤_, _<_};
 ghost use lib.ListN.{length};
 use field::Gf;
-use rounds::Form;
-use rounds::Solver;
+use solver::Form;
+use solver::Solver;
 use subword::Settled;
 
 // The syndromes, then zeros.

@@ -8,9 +8,9 @@ mod print;
 
 ghost use Prim.Native.Nat.{_<_};
 ghost use lib.ListN.{length};
-use rounds::Form;
 use rounds::Progress;
-use rounds::Solver;
+use solver::Form;
+use solver::Solver;
 
 // The number h with the state of the form that runs.
 fn state(h: u64, s: Solver, form: u8) -> u64 {

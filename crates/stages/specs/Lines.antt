@@ -12,9 +12,9 @@ use native.Mathlib.Decide.{decLt, ℕ-discrete}
 use native.Mathlib.Omega.{arith}
 use lib.ListN.{length, getD, set, replicate, length-set, length-map, length-replicate, getD-replicate, List·getD-map, List·getD-eq-default}
 use lib.Seq.{getD-set-same, getD-set-other}
-use Rattle.rounds.specs.declared.form.Form.{Form}
-use Rattle.rounds.specs.declared.form.Solver.{Solver}
-use Rattle.rounds.specs.Solver.{form-of, Is}
+use Rattle.solver.specs.declared.Form.{Form}
+use Rattle.solver.specs.declared.Solver.{Solver}
+use Rattle.solver.specs.Solver.{form-of, Is}
 use Rattle.continuation.specs.Definition.{Ended, ended-start}
 use Rattle.staged.specs.Definition as staged
 use Rattle.staged.specs.Definition.{put}

@@ -23,7 +23,7 @@ use Rattle.polynomial.specs.Polynomial.{row}
 use Rattle.profile.specs.declared.Profile.{Profile}
 use Rattle.profile.specs.Definition.{capability}
 use Rattle.code.specs.Check.{table}
-use Rattle.rounds.specs.declared.form.Form.{Form}
+use Rattle.solver.specs.declared.Form.{Form}
 use Rattle.settle.specs.Definition.{settle}
 use Rattle.continuation.specs.Definition.{Ended}
 use Rattle.staged.specs.Definition as staged

@@ -24,8 +24,8 @@ use Rattle.series.specs.Decide.{holds}
 use Rattle.polynomial.specs.Polynomial.{row}
 use Rattle.profile.specs.declared.Profile.{Profile}
 use Rattle.profile.specs.Definition.{capability}
-use Rattle.rounds.specs.declared.form.Form.{Form}
-use Rattle.rounds.specs.declared.form.Solver.{Solver}
+use Rattle.solver.specs.declared.Form.{Form}
+use Rattle.solver.specs.declared.Solver.{Solver}
 use Rattle.reed_solomon.specs.Definition.{root}
 use Rattle.reed_solomon.specs.Systematic.{syndrome-is}
 use Rattle.settle.specs.Definition.{Explains, settle}

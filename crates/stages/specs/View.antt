@@ -30,7 +30,7 @@ use Rattle.series.specs.Word.{entry, weight}
 use Rattle.profile.specs.declared.Profile.{Profile}
 use Rattle.profile.specs.Definition.{capability}
 use Rattle.code.specs.Check.{table}
-use Rattle.rounds.specs.declared.form.Form.{Form}
+use Rattle.solver.specs.declared.Form.{Form}
 use Rattle.continuation.specs.Definition.{Ended}
 use Rattle.staged.specs.Definition as staged
 use Rattle.staged.specs.Definition.{Progress, count, add, line-of, line-at, line-rounds, rounds-of, stage, round, start, stages, settled, stopped}

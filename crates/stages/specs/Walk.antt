@@ -27,7 +27,7 @@ use Rattle.profile.specs.declared.Profile.{Profile}
 use Rattle.profile.specs.Definition.{capability}
 use Rattle.profile.specs.Valid.{Valid}
 use Rattle.code.specs.Check.{table, received}
-use Rattle.rounds.specs.declared.form.Form.{Form}
+use Rattle.solver.specs.declared.Form.{Form}
 use Rattle.continuation.specs.Definition.{Ended}
 use Rattle.staged.specs.Definition as staged
 use Rattle.staged.specs.Definition.{Progress, open?, unsettled-line, unsettled, line-at, line-rounds, rounds-of, extend, start, stage, round, stages, settled}

@@ -24,8 +24,8 @@ use code::SUBWORDS;
 use field::Gf;
 use polynomial::SYNDROMES;
 use profile::Profile;
-use rounds::Form;
-use rounds::Solver;
+use solver::Form;
+use solver::Solver;
 
 // Document 01's clean, or mended with its count and stage.
 pub enum Verdict {

@@ -5,7 +5,7 @@ use mathlib.Core.List.{List}
 use native.Mathlib.Omega.{arith}
 use Rattle.field.specs.Field.{F}
 use Rattle.polynomial.specs.Polynomial.{row as Row}
-use Rattle.rounds.specs.declared.form.Form.{Form}
+use Rattle.solver.specs.declared.Form.{Form}
 use Rattle.continuation.specs.Definition.{Next}
 use Rattle.continuation.specs.State.{Reached, next-rising, reached-enter, reached-iterate, reached-end}
 use borrow.Author.Needs.{needs}

@@ -3,7 +3,7 @@ use mathlib.Core.Path.{refl}
 use Rattle.plain.specs.View.{plain}
 use Rattle.lookahead.specs.View.{lookahead}
 use Rattle.scaled.specs.View.{scaled}
-use Rattle.rounds.specs.Solver.{for-form}
+use Rattle.solver.specs.Solver.{for-form}
 use Rattle.continuation.specs.End.{ended-locator}
 use borrow.Author.Needs.{needs}
 use Rattle.continuation.proofs.locator.Statement.{statement}

@@ -9,7 +9,7 @@ use Rattle.series.specs.Array.{bytes}
 use Rattle.profile.specs.Definition.{capability}
 use Rattle.profile.specs.Valid.{capability-mono, capability-most}
 use Rattle.code.specs.Check.{Fits, received}
-use Rattle.rounds.specs.declared.form.Form.{Form}
+use Rattle.solver.specs.declared.Form.{Form}
 use Rattle.stages.specs.View.{Reached}
 use Rattle.stages.specs.Walk.{At, before-first, at-first, follows-yes, at-next, reached}
 use borrow.Author.Needs.{needs}

@@ -3,7 +3,7 @@ use Prim.Native.Nat.{_-_, _≤_}
 use mathlib.Core.Path.{_≡_}
 use native.Mathlib.Omega.{arith}
 use lib.ListN.{length, length-set}
-use Rattle.rounds.specs.declared.form.Form.{Form}
+use Rattle.solver.specs.declared.Form.{Form}
 use Rattle.code.specs.Check.{Fits}
 use Rattle.stages.specs.View.{view, Before}
 use Rattle.stages.specs.Stage.{Mid, mid-start, mid-next, mid-end}

@@ -1,0 +1,49 @@
+-- The form that it has goes on.
+use mathlib.Core.Path.{refl}
+use Rattle.solver.specs.Solver.{for-form}
+use borrow.Author.Needs.{needs}
+use Rattle.solver.proofs.Solver.enter.Statement.{statement}
+use Rattle.solver.proofs.Solver.enter.Tie as tie
+
+enum-told : tie.Need-enum-told
+enum-told c = search needs
+
+enum-told-2 : tie.Need-enum-told-2
+enum-told-2 c = search needs
+
+enter-requires : tie.Need-enter-requires
+enter-requires c κs = search needs
+
+enum-told-3 : tie.Need-enum-told-3
+enum-told-3 c = search needs
+
+enter-requires-2 : tie.Need-enter-requires-2
+enter-requires-2 c κs = search needs
+
+returns : tie.Need-returns
+returns c =
+    let e = c .enum-told .given .1 in
+    for-form _ _ _ e (e, refl)
+
+returns-2 : tie.Need-returns-2
+returns-2 c =
+    let e = c .before .enum-told2 .given .1 in
+    for-form _ _ _ e (e, c .enter .ensures)
+
+returns-3 : tie.Need-returns-3
+returns-3 c =
+    let e = c .before .enum-told3 .given .1 in
+    for-form _ _ _ e (e, c .enter2 .ensures)
+
+pub enter-spec : {M : Type 1} → statement M
+enter-spec =
+    tie.close
+    (tie.spec
+    enum-told
+    enum-told-2
+    enter-requires
+    enum-told-3
+    enter-requires-2
+    returns
+    returns-2
+    returns-3)

@@ -1,0 +1,33 @@
+-- The form that it has gives its length.
+use mathlib.Core.Path.{refl}
+use Rattle.plain.specs.View.{plain}
+use Rattle.lookahead.specs.View.{lookahead}
+use Rattle.scaled.specs.View.{scaled}
+use Rattle.solver.specs.Solver.{for-form}
+use borrow.Author.Needs.{needs}
+use Rattle.solver.proofs.Solver.length.Statement.{statement}
+use Rattle.solver.proofs.Solver.length.Tie as tie
+
+enum-told : tie.Need-enum-told
+enum-told c = search needs
+
+enum-told-2 : tie.Need-enum-told-2
+enum-told-2 c = search needs
+
+enum-told-3 : tie.Need-enum-told-3
+enum-told-3 c = search needs
+
+returns : tie.Need-returns
+unfolding plain
+returns c r = for-form _ _ r (c .enum-told .given .1) refl
+
+returns-2 : tie.Need-returns-2
+unfolding lookahead
+returns-2 c r = for-form _ _ r (c .enum-told2 .given .1) refl
+
+returns-3 : tie.Need-returns-3
+unfolding scaled
+returns-3 c r = for-form _ _ r (c .enum-told3 .given .1) refl
+
+pub length-spec : {M : Type 1} → statement M
+length-spec = tie.close (tie.spec enum-told enum-told-2 enum-told-3 returns returns-2 returns-3)

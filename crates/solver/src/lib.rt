@@ -1,0 +1,144 @@
+// A key-equation solver in a named form.
+ghost use Prim.Native.Nat.{ℕ, _+_};
+ghost use mathlib.Core.Path.{_≡_};
+ghost use Rattle.polynomial.specs.Polynomial.{row};
+ghost use Rattle.iteration.specs.Length.{k-of};
+ghost use Rattle.solver.specs.Solver.{form-of, Is, clip, k-in};
+use field::Gf;
+use lookahead::Lookahead;
+use plain::Plain;
+use scaled::Scaled;
+
+// Document 01's plain, ahead and scaled.
+pub enum Form {
+    Plain,
+    Lookahead,
+    Scaled,
+}
+
+// The named form's state goes on; the two others stay as they were.
+pub struct Solver {
+    pub form: Form,
+    pub plain: Plain,
+    pub lookahead: Lookahead,
+    pub scaled: Scaled,
+}
+
+impl Solver {
+    pub fn start(named: Form) -> Solver
+        ensures { λ p. ⌜ Is named 0 p (form-of named .start) ⌝ }
+    {
+        let p = Plain::start();
+        let l = Lookahead::start();
+        let c = Scaled::start();
+        Solver {
+            form: named,
+            plain: p,
+            lookahead: l,
+            scaled: c,
+        }
+    }
+
+    // Enters a round at u; s is the run's syndromes so far, zeros past the round.
+    pub fn enter(self, u: u8, s: [Gf; 48]) -> Solver
+        ensures { λ p. ⌜ ((f : Form) (m : form-of f .State) → Is f u self m → Is f u p (form-of f .enter u (row s) m)) ⌝ }
+    {
+        let form = self.form;
+        let p = self.plain;
+        let l = self.lookahead;
+        let c = self.scaled;
+        match form {
+            Form::Plain => Solver {
+                form: form,
+                plain: p,
+                lookahead: l,
+                scaled: c,
+            },
+            Form::Lookahead => Solver {
+                form: form,
+                plain: p,
+                lookahead: l.enter(u, s),
+                scaled: c,
+            },
+            Form::Scaled => Solver {
+                form: form,
+                plain: p,
+                lookahead: l,
+                scaled: c.enter(u, s),
+            },
+        }
+    }
+
+    // Iteration r.
+    pub fn iterate(self, r: u8, s: [Gf; 48]) -> Solver
+        ensures { λ p. ⌜ ((f : Form) (m : form-of f .State) → Is f r self m → Is f (r + 1) p (clip f (form-of f .iterate r (row s) m))) ⌝ }
+    {
+        let form = self.form;
+        let p = self.plain;
+        let l = self.lookahead;
+        let c = self.scaled;
+        match form {
+            Form::Plain => Solver {
+                form: form,
+                plain: p.iterate(r, s),
+                lookahead: l,
+                scaled: c,
+            },
+            Form::Lookahead => Solver {
+                form: form,
+                plain: p,
+                lookahead: l.iterate(r, s),
+                scaled: c,
+            },
+            Form::Scaled => Solver {
+                form: form,
+                plain: p,
+                lookahead: l,
+                scaled: c.iterate(r, s),
+            },
+        }
+    }
+
+    // Whether iteration r is a swap.
+    pub fn swaps(self, r: u8, s: [Gf; 48]) -> bool
+        ensures { λ b. ⌜ ((f : Form) (m : form-of f .State) → Is f r self m → b ≡ form-of f .swapping r (row s) m) ⌝ }
+    {
+        let form = self.form;
+        let p = self.plain;
+        let l = self.lookahead;
+        let c = self.scaled;
+        match form {
+            Form::Plain => swap::swaps(p.discrepancy(r, s), p.length, r),
+            Form::Lookahead => {
+                let delta = l.delta;
+                swap::swaps(delta[0], l.length, r)
+            }
+            Form::Scaled => {
+                let delta = c.delta;
+                swap::swaps(delta[0], c.length, r)
+            }
+        }
+    }
+
+    // The length L: after r iterations k is r - 2L.
+    pub fn length(self) -> u16
+        ensures { λ l. ⌜ ((r : ℕ) (f : Form) (m : form-of f .State) → Is f r self m → k-of r l ≡ k-in f m) ⌝ }
+    {
+        let form = self.form;
+        let p = self.plain;
+        let l = self.lookahead;
+        let c = self.scaled;
+        match form {
+            Form::Plain => p.length,
+            Form::Lookahead => l.length,
+            Form::Scaled => c.length,
+        }
+    }
+
+    // k after r iterations.
+    pub fn k(self, r: u8) -> i32
+        ensures { λ k. ⌜ ((f : Form) (m : form-of f .State) → Is f r self m → k ≡ k-in f m) ⌝ }
+    {
+        swap::k(self.length(), r)
+    }
+}
