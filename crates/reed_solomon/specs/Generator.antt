@@ -4,22 +4,16 @@
 --   rest k        the same without its top term z^k
 --   aligned k     the same at the top of 48 coefficients: times z^(48 - k)
 --
--- Proved: the rest has degree below k and, at each of the k roots, the value of z^k (rest-value); one root more, in place (aligned-more), by an array
--- that holds z^48 + g divided by z (over-z).
-use Prim.Native.Nat.{ℕ, zero, suc, _+_, _-_, _<_}
-use mathlib.Core.Path.{_≡_, sym, _∙_, ap, ap₂}
-use mathlib.Core.List.{List}
+-- Proved: the rest has degree below k and, at each of the k roots, the value of z^k (rest-value).
+use Prim.Native.Nat.{ℕ, zero, suc, _-_, _<_}
+use mathlib.Core.Path.{_≡_, sym, _∙_, ap}
 use native.Mathlib.Decide.{ℕ-discrete}
-use native.Mathlib.Numerals.{add-one}
 use native.Mathlib.Omega.{arith}
-use lib.ListN.{length, set}
-use Rattle.field.specs.Field.{F, 𝟎, 𝟏, _⊕_, _⊙_, of, of-zero, of-one, zero-⊕, ⊕-self, ⊙-zero, zero-⊙, ⊙-one, pow}
-use Rattle.series.specs.Series.{Series, O, K, Z, _⊞_, _⊠_, tail, ⊠-ring, ⊠-assoc, ⊠-one, one-⊠, ⊠-zero, ⊞-self, tail-Z-⊠}
-use Rattle.series.specs.Shift.{zpow, cut, zpow-zero, zpow-suc, zpow-add, cut-high}
-use Rattle.series.specs.Degree.{below, below-weaken, below-O, below-K, below-Z, below-zpow, below-⊞, below-⊠, below-K-⊠, below-tail, below-cut-eq}
+use Rattle.field.specs.Field.{F, 𝟎, 𝟏, _⊕_, _⊙_, zero-⊕, ⊕-self, ⊙-zero, zero-⊙, ⊙-one, pow}
+use Rattle.series.specs.Series.{Series, O, K, Z, _⊞_, _⊠_, ⊠-ring, ⊠-one, ⊞-self}
+use Rattle.series.specs.Shift.{zpow, zpow-zero, zpow-suc}
+use Rattle.series.specs.Degree.{below, below-weaken, below-O, below-K, below-Z, below-zpow, below-⊞, below-⊠, below-K-⊠}
 use Rattle.series.specs.Value.{value, value-more, value-⊞, value-⊠, value-K, value-Z-⊠, value-zpow}
-use Rattle.series.specs.Array.{bytes, below-read}
-use Rattle.kernel.specs.Store.{bytes-add}
 use Rattle.reed_solomon.specs.Definition.{root}
 
 unfoldable pub generator : ℕ → Series
@@ -84,26 +78,3 @@ rest-value k j h =
     sym (value-more k (suc k) (rest k) (root j) (below-rest k) (omega arith))
     ∙ value-⊞ (suc k) (generator k) (zpow k) (root j)
     ∙ rw (generator-value k j h, value-zpow k (suc k) (root j) (omega arith)) (zero-⊕ _)
-
--- ---- at the top of 48 coefficients
-
-pub aligned-none : aligned 0 ≡ O
-unfolding aligned
-aligned-none = rw rest-none (⊠-zero _)
-
-pub aligned-more : (k : ℕ) → k < 48 → aligned (k + 1) ≡ aligned k ⊞ K (root k) ⊠ (tail (aligned k) ⊞ zpow 47)
-unfolding aligned
-aligned-more k h =
-    let e : 48 - (k + 1) ≡ 47 - k = omega arith in
-    let d : 48 - k ≡ suc (47 - k) = omega arith in
-    let s : 47 ≡ (47 - k) + k = omega arith in
-    let z : zpow 47 ≡ zpow (47 - k) ⊠ zpow k = ap zpow s ∙ zpow-add (47 - k) k in
-    rw (e, d, add-one, rest-more, zpow-suc (47 - k), ⊠-assoc, tail-Z-⊠, z) (simp ⊠-ring)
-
-pub over-z : (g l : List ℕ) → length g ≡ 48 → length l ≡ 48 → bytes l ≡ cut 47 (tail (bytes g)) → bytes (set l 47 1) ≡ tail (bytes g) ⊞ zpow 47
-over-z g l h k e =
-    bytes-add l 47 1 𝟏 (omega arith) (of-one ∙ sym (ap (λ (s : F). s ⊕ 𝟏) none ∙ zero-⊕ 𝟏))
-    ∙ ap₂ _⊞_ (e ∙ below-cut-eq 47 _ (below-tail 47 (bytes g) (rw h at (below-read of 0 of-zero g)))) (one-⊠ (zpow 47))
-  where
-    none : bytes l 47 ≡ 𝟎
-    none = ap (λ (f : Series). f 47) e ∙ cut-high 47 _ 47 (omega arith)

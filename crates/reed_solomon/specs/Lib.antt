@@ -2,5 +2,6 @@
 pub mod Definition
 pub mod Systematic
 pub mod Generator
+pub mod Coefficients
 pub mod Encoder
 pub mod Residue

@@ -6,12 +6,13 @@ ghost use mathlib.Core.Logic.{_≢_};
 ghost use mathlib.Core.Bool.{true, false};
 ghost use lib.ListN.{length};
 ghost use Rattle.field.specs.Field.{val};
-ghost use Rattle.series.specs.Series.{O, _⊞_, tail};
-ghost use Rattle.series.specs.Shift.{cut, zpow};
+ghost use Rattle.series.specs.Series.{O};
+ghost use Rattle.series.specs.Shift.{cut};
 ghost use Rattle.series.specs.Array.{bytes};
 ghost use Rattle.polynomial.specs.Polynomial.{row};
 ghost use Rattle.reed_solomon.specs.Definition.{root as Root, syndrome as Syndrome, systematic};
 ghost use Rattle.reed_solomon.specs.Generator.{aligned};
+ghost use Rattle.reed_solomon.specs.Coefficients.{Zech};
 ghost use Rattle.reed_solomon.specs.Encoder.{Table};
 ghost use Rattle.reed_solomon.specs.Residue.{residue as Residue};
 use field::Exponent;
@@ -39,32 +40,35 @@ pub fn syndrome(word: &[u8], j: usize) -> Gf
     kernel::value(&row, word)
 }
 
-// The polynomial z^48 + g divided by z, its constant term dropped.
-fn over_z(g: [u8; 48]) -> [u8; 48]
-    ensures { λ r. ⌜ bytes r ≡ tail (bytes g) ⊞ zpow 47 ⌝ }
+// Zech's logarithms. At i: the exponent of α^(i+1) + 1.
+const LOGARITHMS: [u8; 48] = *b"\x19\x32\xdf\x64\x8a\xbf\x70\xc8\x78\x15\xf5\x7f\x63\xe0\x21\x91\
+    \x44\xf0\x5c\x2a\x0a\xeb\xc4\xfe\x01\xc6\x68\xc1\xb5\x42\x2d\x23\
+    \x0f\x88\x20\xe1\xb3\xb8\x6a\x54\x9d\x14\x79\xd7\x1f\x89\x65\xfd";
+
+// The table by what it means: no caller sees its entries.
+fn zech() -> [u8; 48]
+    ensures { λ r. ⌜ Zech r ⌝ }
 {
-    let mut out = [0u8; 48];
-    let mut i: usize = 0;
-    while i < 47 {
-        out[i] = g[i + 1];
-        i += 1;
-    }
-    out[47] = 1;
-    out
+    LOGARITHMS
 }
 
-// The generator of k roots without its top term, which stands where entry 48 would be. Each root's factor is z + root: one row of products.
+// The generator of k roots without its top term, which stands where entry 48 would be. From the top down: a coefficient is the one above it, times
+// α^(j+1) (α^(k-j) + 1) / (α^(j+1) + 1), with j coefficients above that one. All are powers of α, and α^255 is 1.
 fn generator(k: usize) -> [u8; 48]
     requires { ⌜ k ≤ 48 ⌝ }
     ensures { λ r. ⌜ bytes r ≡ aligned k ⌝ }
 {
+    let z = zech();
     let mut g = [0u8; 48];
+    let mut e: usize = 0;
     let mut j: usize = 0;
     while j < k {
-        let row = kernel::product_row(root(j));
-        let up = over_z(g);
-        kernel::add_multiple(&row, &up, &mut g);
+        let up = kernel::wide(z[k - (j + 1)]);
+        let down = kernel::wide(z[j]);
+        e = e + (j + 256 + up) - down;
         j += 1;
+        let c = Exponent(e).power();
+        g[48 - j] = c.0;
     }
     g
 }

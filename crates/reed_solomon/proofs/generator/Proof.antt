@@ -1,75 +1,107 @@
--- g holds the generator of the first j roots.
-use Prim.Native.Nat.{ℕ, _-_, _≤_}
-use mathlib.Core.Path.{_≡_, sym, ap, ap₂, _∙_}
+-- The j top coefficients stand, and e is the exponent of the last.
+use Prim.Native.Nat.{ℕ, _+_, _*_, _-_, _≤_}
+use mathlib.Core.Path.{_≡_, sym, ap, _∙_}
 use native.Mathlib.Omega.{arith}
-use lib.ListN.{length, length-replicate}
-use Rattle.field.specs.Field.{F, of, of-zero}
-use Rattle.series.specs.Series.{Series, K, _⊞_, _⊠_, tail}
-use Rattle.series.specs.Shift.{zpow, cut-none}
+use lib.ListN.{length, length-set, length-replicate}
+use Rattle.field.specs.Field.{α, pow, of, of-zero, pow-zero, val-of}
+use Rattle.series.specs.Shift.{cut-none}
 use Rattle.series.specs.Array.{bytes, read-zeros}
-use Rattle.kernel.specs.Row.{row-products, factor-products}
-use Rattle.reed_solomon.specs.Definition.{root}
-use Rattle.reed_solomon.specs.Generator.{aligned, aligned-none, aligned-more}
+use Rattle.reed_solomon.specs.Definition.{upper}
+use Rattle.reed_solomon.specs.Generator.{generator, aligned}
+use Rattle.reed_solomon.specs.Coefficients.{coefficient-top, exponent-more, back-none, back-more, back-all}
 use borrow.Author.Needs.{needs}
 use Rattle.reed_solomon.proofs.generator.Statement.{statement}
 use Rattle.reed_solomon.proofs.generator.Tie as tie
 
 abbrev Inv-loop : tie.InvT-loop
-Inv-loop k g₀ j₀ g j = (j ≤ k) × (length g ≡ 48) × (bytes g ≡ aligned j)
+Inv-loop k z g₀ e₀ j₀ g e j =
+    (j ≤ k) × (length g ≡ 48) × (e ≤ 600 * j) × (pow α e ≡ generator k (k - j)) × (bytes g ≡ upper (48 - j) (aligned k))
 
 abbrev μ-loop : tie.MeasureT-loop
-μ-loop k g₀ j₀ g j = k - j
+μ-loop k z g₀ e₀ j₀ g e j = k - j
+
+zech-requires : tie.Need-zech-requires Inv-loop μ-loop
+zech-requires c κs = search needs
 
 loop-holds : tie.Need-loop-holds Inv-loop μ-loop
-loop-holds c = (search needs, length-replicate {A = ℕ} 48 0, read-zeros of 0 of-zero 48 _ ∙ cut-none (aligned 0) ∙ sym aligned-none)
+loop-holds c =
+    let k = c .before .args .k in
+    let e : k - 0 ≡ k = omega arith in (
+      search needs,
+      length-replicate {A = ℕ} 48 0,
+      search needs,
+      pow-zero α ∙ sym (ap (generator k) e ∙ coefficient-top k),
+      read-zeros of 0 of-zero 48 (aligned k) ∙ cut-none _ ∙ back-none k (c .before .pre),
+    )
 
-root-requires : tie.Need-root-requires Inv-loop μ-loop
-root-requires c κs = search needs
+add-wide : tie.Need-add-wide Inv-loop μ-loop
+add-wide c = search needs
 
-product-row-requires : tie.Need-product-row-requires Inv-loop μ-loop
-product-row-requires c κs = search needs
+sub-wide : tie.Need-sub-wide Inv-loop μ-loop
+sub-wide c = search needs
 
-over-z-requires : tie.Need-over-z-requires Inv-loop μ-loop
-over-z-requires c κs = search needs
+array-read-wide : tie.Need-array-read-wide Inv-loop μ-loop
+array-read-wide c = search needs
 
-slice-aggregate-add-multiple : tie.Need-slice-aggregate-add-multiple Inv-loop μ-loop
-slice-aggregate-add-multiple c = search needs
+wide-requires : tie.Need-wide-requires Inv-loop μ-loop
+wide-requires c κs = search needs
 
-slice-aggregate-add-multiple-2 : tie.Need-slice-aggregate-add-multiple-2 Inv-loop μ-loop
-slice-aggregate-add-multiple-2 c = search needs
+array-read-wide-2 : tie.Need-array-read-wide-2 Inv-loop μ-loop
+array-read-wide-2 c = search needs
 
-slice-aggregate-add-multiple-3 : tie.Need-slice-aggregate-add-multiple-3 Inv-loop μ-loop
-slice-aggregate-add-multiple-3 c = search needs
+wide-requires-2 : tie.Need-wide-requires-2 Inv-loop μ-loop
+wide-requires-2 c κs = search needs
 
-add-multiple-requires : tie.Need-add-multiple-requires Inv-loop μ-loop
-add-multiple-requires c κs =
-    let row = c .before .before .before .before .product-row in
-    (row-products (row .result) _ (omega arith) (row .ensures), omega arith)
+add-e : tie.Need-add-e Inv-loop μ-loop
+add-e c = search needs
+
+add-e-2 : tie.Need-add-e-2 Inv-loop μ-loop
+add-e-2 c = search needs
+
+add-e-3 : tie.Need-add-e-3 Inv-loop μ-loop
+add-e-3 c = search needs
+
+sub-e : tie.Need-sub-e Inv-loop μ-loop
+sub-e c = search needs
 
 add-j : tie.Need-add-j Inv-loop μ-loop
 add-j c = search needs
+
+power-requires : tie.Need-power-requires Inv-loop μ-loop
+power-requires c κs = search needs
+
+sub-g : tie.Need-sub-g Inv-loop μ-loop
+sub-g c = search needs
+
+array-write-g : tie.Need-array-write-g Inv-loop μ-loop
+array-write-g c = search needs
 
 loop-less : tie.Need-loop-less Inv-loop μ-loop
 loop-less c = search needs
 
 loop-again : tie.Need-loop-again Inv-loop μ-loop
 loop-again c =
-    let now = c .before .before .before .before .before .before .before .before .before .loop in
-    let row = c .before .before .before .before .before .before .product-row in
-    let factor-is = factor-products (row .result) _ (row .ensures) ∙ c .before .before .before .before .before .before .before .root .ensures in (
+    let now = c .before .before .before .before .loop in
+    let given = c .before .before .before .before .before .before in
+    let zech = c .before .before .before .before .before .zech .ensures in
+    let k = given .args .k in
+    let up = ap (pow α) (c .before .before .wide .ensures .0) ∙ zech .at (k - (now .j + 1)) (omega arith) in
+    let down = ap (pow α) (c .before .wide2 .ensures .0) ∙ zech .at (now .j) (omega arith) in
+    let next =
+    exponent-more k (now .j) (now .e) (c .before .before .wide .result) (c .before .wide2 .result) (omega arith) (omega arith) (now .inv .3) up down in (
       omega arith,
+      length-set (now .g) _ _ ∙ now .inv .1,
       omega arith,
-      c .before .add-multiple .ensures
-          ∙ ap₂ (λ (a : F) (f : Series). bytes (now .g) ⊞ K a ⊠ f) factor-is (c .before .before .before .before .before .over-z .ensures)
-          ∙ ap (λ (f : Series). f ⊞ K (root (now .j)) ⊠ (tail f ⊞ zpow 47)) (now .inv .2)
-          ∙ sym (aligned-more (now .j) (omega arith)),
+      next,
+      back-more (now .g) k (now .j) _ (given .pre) (omega arith) (now .inv .1) (now .inv .4) (sym (val-of _) ∙ c .power .ensures ∙ next),
     )
 
 returns : tie.Need-returns Inv-loop μ-loop
 returns c =
     let end = c .before .loop in
-    let e : end .j ≡ c .before .before .args .k = omega arith in
-    rw e at (end .inv .2)
+    let k = c .before .before .before .args .k in
+    let e : end .j ≡ k = omega arith in
+    end .inv .4 ∙ ap (λ (n : ℕ). upper (48 - n) (aligned k)) e ∙ back-all k
 
 pub generator-spec : {M : Type 1} → statement M
 generator-spec =
@@ -77,15 +109,22 @@ generator-spec =
     (tie.spec
     Inv-loop
     μ-loop
+    zech-requires
     loop-holds
-    root-requires
-    product-row-requires
-    over-z-requires
-    slice-aggregate-add-multiple
-    slice-aggregate-add-multiple-2
-    slice-aggregate-add-multiple-3
-    add-multiple-requires
+    add-wide
+    sub-wide
+    array-read-wide
+    wide-requires
+    array-read-wide-2
+    wide-requires-2
+    add-e
+    add-e-2
+    add-e-3
+    sub-e
     add-j
+    power-requires
+    sub-g
+    array-write-g
     loop-less
     loop-again
     returns)
