@@ -3,16 +3,20 @@
 --   feed low r x          what z·r + x·z^48 leaves by z^48 + low, for r below 48
 --   remainder low n w     what z^48·(w 0 + w 1·z + .. + w (n - 1)·z^(n - 1)) leaves by z^48 + low
 --
--- Proved: the remainder has degree below 48 and, at every root of z^48 + low, the value of what it is the remainder of (remainder-value).
--- A polynomial of lower degree k stands at the top, times z^(48 - k): so does the remainder by it (below-remainder-top, remainder-top).
+-- Proved: a loop over an array's symbols, the last first, begins by remainder-start and goes on by remainder-step. The remainder has degree below 48
+-- and, at every root of z^48 + low, the value of what it is the remainder of (remainder-value). A polynomial of lower degree k stands at the top,
+-- times z^(48 - k): so does the remainder by it (below-remainder-top, remainder-top).
 use Prim.Native.Nat.{ℕ, zero, suc, _+_, _-_, _≤_, _<_}
-use mathlib.Core.Path.{_≡_, refl, sym, ap, _∙_}
+use mathlib.Core.Path.{_≡_, refl, sym, ap, ap₂, _∙_}
 use mathlib.Core.Logic.{_≢_}
+use mathlib.Core.List.{List}
 use native.Mathlib.Omega.{arith}
-use Rattle.field.specs.Field.{F, 𝟎, _⊕_, _⊙_, zero-⊕, ⊙-zero, ⊙-assoc, ⊙-cancel, ⊙-ring, pow, pow-add, pow-nonzero}
+use lib.ListN.{length, getD}
+use Rattle.field.specs.Field.{F, 𝟎, _⊕_, _⊙_, of, zero-⊕, ⊙-zero, ⊙-assoc, ⊙-cancel, ⊙-ring, pow, pow-add, pow-nonzero}
 use Rattle.series.specs.Series.{Series, O, K, Z, _⊞_, _⊠_, tail, ⊠-ring, O-at, ⊞-at, K-⊠-at, Z-⊠-at0, Z-⊠-at}
 use Rattle.series.specs.Shift.{zpow, drop, cut, zpow-suc, zpow-low, zpow-other, zpow-divide, drop-at0, drop-suc, drop-zpow, cut-suc}
 use Rattle.series.specs.Degree.{below, below-O, below-⊞, below-⊠, below-K-⊠, below-Z-⊠, below-cut, below-cut-eq, below-drop, below-zpow}
+use Rattle.series.specs.Array.{bytes, read-at}
 use Rattle.series.specs.Value.{value, value-none, value-head, value-more, value-zero, value-split, value-⊞, value-K-⊠, value-Z-⊠, value-zpow}
 
 unfoldable pub feed : Series → Series → F → Series
@@ -22,12 +26,12 @@ unfoldable pub remainder : Series → ℕ → Series → Series
 remainder low zero w = O
 remainder low (suc n) w = feed low (remainder low n (tail w)) (w 0)
 
-pub remainder-none : (low w : Series) → remainder low 0 w ≡ O
+remainder-none : (low w : Series) → remainder low 0 w ≡ O
 unfolding remainder
 remainder-none low w = refl
 
 -- from the top: the coefficients from p on, and one more
-pub remainder-more : (low : Series) (n : ℕ) (w : Series) (p : ℕ) → 0 < p → p ≤ n
+remainder-more : (low : Series) (n : ℕ) (w : Series) (p : ℕ) → 0 < p → p ≤ n
     → remainder low (n - (p - 1)) (drop (p - 1) w) ≡ feed low (remainder low (n - p) (drop p w)) (w (p - 1))
 unfolding remainder
 remainder-more low n w zero h l = absurd (omega arith)
@@ -35,6 +39,16 @@ remainder-more low n w (suc p) h l =
     let e : suc p - 1 ≡ p = omega arith in
     let k : n - p ≡ suc (n - suc p) = omega arith in
     rw (e, k, drop-at0, drop-suc)
+
+-- the same of the symbols of an array: how a loop that goes down from the last one begins and goes on
+pub remainder-start : (low : Series) (l : List ℕ) (p : ℕ) (r : Series) → length l ≡ p → r ≡ O → r ≡ remainder low (length l - p) (drop p (bytes l))
+remainder-start low l p r h z = let e : length l - p ≡ 0 = omega arith in z ∙ sym (rw e (remainder-none low _))
+
+pub remainder-step : (low : Series) (l : List ℕ) (p : ℕ) (r q : Series) → 0 < p → p ≤ length l
+    → r ≡ remainder low (length l - p) (drop p (bytes l)) → q ≡ feed low r (of (getD l (p - 1) 0))
+    → q ≡ remainder low (length l - (p - 1)) (drop (p - 1) (bytes l))
+remainder-step low l p r q h m e s =
+    s ∙ ap₂ (feed low) e (sym (read-at of 0 l (p - 1))) ∙ sym (remainder-more low (length l) (bytes l) p h m)
 
 -- ---- degree
 

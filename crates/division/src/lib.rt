@@ -3,6 +3,8 @@ mod packed;
 mod table;
 
 pub use packed::Packed;
+pub use packed::Pair;
 pub use packed::remainder;
+pub use packed::remainders;
 pub use packed::unpack;
 pub use table::multiples;

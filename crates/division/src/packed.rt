@@ -13,6 +13,9 @@ ghost use Rattle.division.specs.Multiples.{row, Multiples, lower};
 // The first symbol stands lowest in the first word.
 pub struct Packed(pub u64, pub u64, pub u64, pub u64, pub u64, pub u64);
 
+// Two of them.
+pub struct Pair(pub Packed, pub Packed);
+
 // The eight bytes from `at` on, the last one first.
 fn word(list: &[u8], at: usize) -> u64
     requires { ⌜ at + 8 ≤ length (now list) ⌝ }
@@ -127,4 +130,21 @@ pub fn remainder(t: &[u64], word: &[u8], from: usize) -> Packed
         r = step(t, r, word[p]);
     }
     r
+}
+
+// The same of two words of one length, a step of each a turn. Neither step waits for the other, so the second word is nearly free.
+pub fn remainders(t: &[u64], a: &[u8], b: &[u8], from: usize) -> Pair
+    requires { ⌜ Multiples (now t) × (from ≤ length (now a)) × (length (now b) ≡ length (now a)) ⌝ }
+    ensures first { λ r. ⌜ packed (r .0) ≡ remainder (lower (now (t .entry))) (length (now (a .entry)) - from) (drop from (bytes (now (a .entry)))) ⌝ }
+    ensures second { λ r. ⌜ packed (r .1) ≡ remainder (lower (now (t .entry))) (length (now (b .entry)) - from) (drop from (bytes (now (b .entry)))) ⌝ }
+{
+    let mut q = Packed(0, 0, 0, 0, 0, 0);
+    let mut r = Packed(0, 0, 0, 0, 0, 0);
+    let mut p: usize = a.len();
+    while p > from {
+        p -= 1;
+        q = step(t, q, a[p]);
+        r = step(t, r, b[p]);
+    }
+    Pair(q, r)
 }

@@ -2,37 +2,53 @@
 --
 --   residue n k w   that remainder: what the first k symbols of w differ by from the check symbols that the others ask for
 --
--- Proved: symbol by symbol it is found from the check symbols (residue-at); it has the word's first k syndromes (residue-syndrome, residue-syndromes),
--- so a word whose remainder is zero has none (residue-clean). An array of bytes is zero or not (all-zero, some-byte).
-use Prim.Native.Nat.{ℕ, _≤_, _<_}
-use mathlib.Core.Path.{_≡_, sym, ap, ap₂, _∙_, fun-ext}
+-- Proved: it is found by the table (residue-table); it has the word's first k syndromes (residue-syndrome, residue-syndromes), so a word whose
+-- remainder is zero has none (residue-clean). An array of bytes is zero or not by the bits of its entries, taken together: a loop that gathers them
+-- goes on by bits-more.
+use Prim.Native.Nat.{ℕ, _+_, _-_, _≤_, _<_}
+use mathlib.Core.Path.{_≡_, refl, sym, ap, ap₂, _∙_, fun-ext}
 use mathlib.Core.Logic.{_≢_, by-cases}
 use mathlib.Core.List.{List}
-use native.Mathlib.Decide.{decLt}
+use native.Mathlib.Decide.{decLt, ℕ-discrete}
 use native.Mathlib.Omega.{arith}
+use borrow.Author.Count.{below-none, below-more}
+use lib.Bits.{bitAnd, bitOr, or-add-and, and-le-l, and-le-r}
 use lib.ListN.{length, getD, take}
 use lib.Seq.{length-take-le}
-use Rattle.field.specs.Field.{F, _⊕_, of, of-zero, of-nonzero, ⊕-zero, zero-⊕, ⊕-group}
+use Rattle.field.specs.Field.{F, 𝟎, _⊕_, of, of-zero, of-nonzero, ⊕-zero, zero-⊕, ⊕-group}
 use Rattle.series.specs.Series.{Series, O, O-at, _⊞_, ⊞-at}
-use Rattle.series.specs.Shift.{cut, cut-low, cut-unique}
-use Rattle.series.specs.Degree.{below, below-cut, below-⊞}
+use Rattle.series.specs.Shift.{drop, cut, cut-low, cut-unique, cut-⊞}
+use Rattle.series.specs.Degree.{below, below-cut, below-cut-eq, below-⊞}
 use Rattle.series.specs.Array.{bytes, read-at, below-read}
 use Rattle.series.specs.Part.{read-take}
 use Rattle.series.specs.Value.{value, value-more, value-cong, value-zero}
 use Rattle.kernel.specs.Store.{cut-cong}
+use Rattle.division.specs.Remainder.{remainder}
+use Rattle.division.specs.Multiples.{lower}
 use Rattle.reed_solomon.specs.Definition.{root, syndrome, check-symbols, systematic}
 use Rattle.reed_solomon.specs.Systematic.{syndrome-is, syndrome-cong, syndrome-⊞, below-check-symbols, systematic-low, systematic-data, systematic-zero}
+use Rattle.reed_solomon.specs.Encoder.{Table, remainder-checks}
 
 unfoldable pub residue : ℕ → ℕ → Series → Series
 residue n k w = cut k w ⊞ check-symbols n k w
 
-pub residue-at : (n k : ℕ) (w : Series) (i : ℕ) → i < k → residue n k w i ≡ w i ⊕ check-symbols n k w i
+residue-at : (n k : ℕ) (w : Series) (i : ℕ) → i < k → residue n k w i ≡ w i ⊕ check-symbols n k w i
 unfolding residue
 residue-at n k w i h = ⊞-at _ _ i ∙ ap (λ (s : F). s ⊕ check-symbols n k w i) (cut-low k w i h)
 
 pub below-residue : (n k : ℕ) (w : Series) → below k (residue n k w)
 unfolding residue
 below-residue n k w = below-⊞ k _ _ (below-cut k w) (below-check-symbols n k w)
+
+-- by the table: from what the symbols from k on leave
+pub residue-table : (n k : ℕ) (t : List ℕ) (w r out : Series) → k ≤ 48 → k ≤ n → Table k t
+    → r ≡ remainder (lower t) (n - k) (drop k w) → out ≡ cut k (w ⊞ drop (48 - k) r) → out ≡ residue n k w
+unfolding residue
+residue-table n k t w r out h l p e o =
+    o
+    ∙ ap (λ (f : Series). cut k (w ⊞ f)) (ap (drop (48 - k)) e ∙ remainder-checks n k t w h l p)
+    ∙ cut-⊞ k _ _
+    ∙ ap (λ (f : Series). cut k w ⊞ f) (below-cut-eq k _ (below-check-symbols n k w))
 
 module _ (n k : ℕ) (w : Series) (small : k < 255) (room : k ≤ n) where
   -- the word is its residue and a word of the code
@@ -68,7 +84,32 @@ module _ (n k : ℕ) (w : Series) (small : k < 255) (room : k ≤ n) where
 -- ---- zero or not
 
 pub all-zero : (l : List ℕ) → ((j : ℕ) → j < length l → getD l j 0 ≡ 0) → bytes l ≡ O
-all-zero l h = fun-ext (λ j. by-cases (decLt j (length l)) (λ k. read-at of 0 l j ∙ ap of (h j k) ∙ of-zero) (λ k. below-read of 0 of-zero l j (omega arith)) ∙ sym (O-at j))
+all-zero l h = fun-ext (λ j. by-cases (decLt j (length l)) (entry j) (λ k. below-read of 0 of-zero l j (omega arith)) ∙ sym (O-at j))
+  where
+    entry : (j : ℕ) → j < length l → bytes l j ≡ 𝟎
+    entry j k = read-at of 0 l j ∙ ap of (h j k) ∙ of-zero
 
-pub some-byte : (l : List ℕ) (i : ℕ) → getD l i 0 ≢ 0 → getD l i 0 < 256 → bytes l ≢ O
+some-byte : (l : List ℕ) (i : ℕ) → getD l i 0 ≢ 0 → getD l i 0 < 256 → bytes l ≢ O
 some-byte l i h small e = of-nonzero (getD l i 0) small h (sym (read-at of 0 l i) ∙ ap (λ (f : Series). f i) e ∙ O-at i)
+
+-- what the bits of the first i entries, taken together, tell
+pub record Bits (l : List ℕ) (i bits : ℕ) : Type 0 where
+  pub none : bits ≡ 0 → (j : ℕ) → j < i → getD l j 0 ≡ 0
+  pub some : bits ≢ 0 → bytes l ≢ O
+
+pub bits-none : (l : List ℕ) → Bits l 0 0
+bits-none l = record { none = λ _. below-none _; some = λ h. absurd (h refl) }
+
+pub bits-more : (l : List ℕ) (i bits : ℕ) → Bits l i bits → getD l i 0 < 256 → Bits l (i + 1) (bitOr bits (getD l i 0))
+bits-more l i bits p small =
+    record {
+      none = λ e. below-more _ i (p .none (both e .0)) (both e .1);
+      some = λ h. by-cases (ℕ-discrete bits 0) (λ z. some-byte l i (λ x. h (ap₂ bitOr z x)) small) (p .some);
+    }
+  where
+    both : bitOr bits (getD l i 0) ≡ 0 → (bits ≡ 0) × (getD l i 0 ≡ 0)
+    both e =
+        let s : bitOr bits (getD l i 0) + bitAnd bits (getD l i 0) ≡ bits + getD l i 0 = or-add-and bits (getD l i 0) in
+        let a : bitAnd bits (getD l i 0) ≤ bits = and-le-l bits (getD l i 0) in
+        let b : bitAnd bits (getD l i 0) ≤ getD l i 0 = and-le-r bits (getD l i 0) in
+        (omega arith, omega arith)

@@ -1,20 +1,22 @@
 // One Reed-Solomon word: roots, syndromes, check symbols.
 // What the promises speak of stands in specs/Definition.antt: `systematic n k w` is the word w with its k check symbols in place.
-ghost use Prim.Native.Nat.{_≤_, _<_};
+ghost use Prim.Native.Nat.{_-_, _≤_, _<_};
 ghost use mathlib.Core.Path.{_≡_};
 ghost use mathlib.Core.Logic.{_≢_};
 ghost use mathlib.Core.Bool.{true, false};
 ghost use lib.ListN.{length};
 ghost use Rattle.field.specs.Field.{val};
-ghost use Rattle.series.specs.Series.{O};
-ghost use Rattle.series.specs.Shift.{cut};
+ghost use Rattle.series.specs.Series.{O, _⊞_};
+ghost use Rattle.series.specs.Shift.{drop, cut};
 ghost use Rattle.series.specs.Array.{bytes};
 ghost use Rattle.polynomial.specs.Polynomial.{row};
+ghost use Rattle.division.specs.Packed.{packed};
 ghost use Rattle.reed_solomon.specs.Definition.{root as Root, syndrome as Syndrome, systematic};
 ghost use Rattle.reed_solomon.specs.Generator.{aligned};
 ghost use Rattle.reed_solomon.specs.Coefficients.{Zech};
 ghost use Rattle.reed_solomon.specs.Encoder.{Table};
 ghost use Rattle.reed_solomon.specs.Residue.{residue as Residue};
+use division::Packed;
 use field::Exponent;
 use field::Gf;
 use polynomial::SYNDROMES;
@@ -102,12 +104,11 @@ pub fn encode(t: &[u64], k: usize, word: &mut [u8])
     }
 }
 
-// The remainder of a word by the generator of k roots, zeros from k on. The word is in the code exactly if it is zero.
-pub fn residue(t: &[u64], k: usize, word: &[u8]) -> [u8; SYNDROMES]
-    requires { ⌜ Table k (now t) × (k ≤ 48) × (k ≤ length (now word)) ⌝ }
-    ensures { λ r. ⌜ bytes r ≡ Residue (length (now (word .entry))) k (bytes (now (word .entry))) ⌝ }
+// The first k symbols of a word, the symbols at the top of a remainder added, then zeros.
+fn difference(word: &[u8], k: usize, r: Packed) -> [u8; SYNDROMES]
+    requires { ⌜ (k ≤ 48) × (k ≤ length (now word)) ⌝ }
+    ensures { λ out. ⌜ bytes out ≡ cut k (bytes (now (word .entry)) ⊞ drop (48 - k) (packed r)) ⌝ }
 {
-    let r = division::remainder(t, word, k);
     let checks = division::unpack(r);
     let above = 48 - k;
     let mut out = [0u8; SYNDROMES];
@@ -119,18 +120,43 @@ pub fn residue(t: &[u64], k: usize, word: &[u8]) -> [u8; SYNDROMES]
     out
 }
 
-// Whether all symbols are zero.
+// The remainder of a word by the generator of k roots, zeros from k on. The word is in the code exactly if it is zero.
+pub fn residue(t: &[u64], k: usize, word: &[u8]) -> [u8; SYNDROMES]
+    requires { ⌜ Table k (now t) × (k ≤ 48) × (k ≤ length (now word)) ⌝ }
+    ensures { λ r. ⌜ bytes r ≡ Residue (length (now (word .entry))) k (bytes (now (word .entry))) ⌝ }
+{
+    difference(word, k, division::remainder(t, word, k))
+}
+
+// The remainders of two words.
+pub struct ResiduePair {
+    pub first: [u8; SYNDROMES],
+    pub second: [u8; SYNDROMES],
+}
+
+// The same of two words of one length: it takes little longer than one.
+pub fn residues(t: &[u64], k: usize, a: &[u8], b: &[u8]) -> ResiduePair
+    requires { ⌜ Table k (now t) × (k ≤ 48) × (k ≤ length (now a)) × (length (now b) ≡ length (now a)) ⌝ }
+    ensures first { λ r. ⌜ (length (r .first) ≡ 48) × (bytes (r .first) ≡ Residue (length (now (a .entry))) k (bytes (now (a .entry)))) ⌝ }
+    ensures second { λ r. ⌜ (length (r .second) ≡ 48) × (bytes (r .second) ≡ Residue (length (now (b .entry))) k (bytes (now (b .entry)))) ⌝ }
+{
+    let both = division::remainders(t, a, b, k);
+    let first = difference(a, k, both.0);
+    let second = difference(b, k, both.1);
+    ResiduePair { first, second }
+}
+
+// Whether all symbols are zero: their bits, taken together.
 pub fn is_zero(word: &[u8]) -> bool
     ensures { λ b. ⌜ (b ≡ true → bytes (now (word .entry)) ≡ O) × (b ≡ false → bytes (now (word .entry)) ≢ O) ⌝ }
 {
+    let mut bits: u8 = 0;
     let mut i: usize = 0;
     while i < word.len() {
-        if word[i] != 0 {
-            return false;
-        }
+        bits = bits | word[i];
         i += 1;
     }
-    true
+    bits == 0
 }
 
 // The values of a remainder of k symbols at the roots, then zeros.

@@ -1,3 +1,4 @@
+-- Zeros if the remainder is zero, its values at the roots if not.
 use mathlib.Core.Path.{_≡_, sym, _∙_}
 use native.Mathlib.Omega.{arith}
 use lib.ListN.{length}
@@ -7,11 +8,6 @@ use Rattle.reed_solomon.specs.Residue.{residue-clean, residue-syndromes}
 use borrow.Author.Needs.{needs}
 use Rattle.reed_solomon.proofs.syndromes.Statement.{statement}
 use Rattle.reed_solomon.proofs.syndromes.Tie as tie
-use Rattle.reed_solomon.proofs.syndromes.Reads as reads
-use Rattle.reed_solomon.proofs.syndromes.Lts as lts
-use Rattle.reed_solomon.proofs.is_zero.Reads as is-zero-reads
-use Rattle.reed_solomon.proofs.residue.Reads as residue-reads
-use Rattle.reed_solomon.proofs.values.Reads as values-reads
 
 residue-requires : tie.Need-residue-requires
 residue-requires c κs = search needs

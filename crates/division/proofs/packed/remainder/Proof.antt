@@ -1,13 +1,12 @@
 -- r is the remainder of the symbols from p on.
 use Prim.Native.Nat.{_-_, _≤_}
-use mathlib.Core.Path.{_≡_, sym, ap₂, _∙_}
+use mathlib.Core.Path.{_≡_, refl}
 use native.Mathlib.Omega.{arith}
 use lib.ListN.{length}
-use Rattle.field.specs.Field.{of}
 use Rattle.series.specs.Shift.{drop}
-use Rattle.series.specs.Array.{bytes, read-at}
+use Rattle.series.specs.Array.{bytes}
 use Rattle.division.specs.Packed.{packed, six-zero}
-use Rattle.division.specs.Remainder.{feed, remainder, remainder-none, remainder-more}
+use Rattle.division.specs.Remainder.{remainder, remainder-start, remainder-step}
 use Rattle.division.specs.Multiples.{lower}
 use borrow.Author.Needs.{needs}
 use Rattle.division.proofs.packed.remainder.Statement.{statement}
@@ -23,9 +22,7 @@ abbrev μ-loop : tie.MeasureT-loop
 loop-holds : tie.Need-loop-holds Inv-loop μ-loop
 loop-holds c =
     let given = c .before .before in
-    let n = length (given .args .word .now) in
-    let e : n - n ≡ 0 = omega arith in
-    (given .pre .1, search needs, six-zero ∙ sym (rw e (remainder-none _ _)))
+    (given .pre .1, search needs, remainder-start _ (given .args .word .now) _ _ refl six-zero)
 
 sub-p : tie.Need-sub-p Inv-loop μ-loop
 sub-p c = search needs
@@ -42,15 +39,8 @@ loop-less c = search needs
 loop-again : tie.Need-loop-again Inv-loop μ-loop
 loop-again c =
     let now = c .before .before .before .loop in
-    let given = c .before .before .before .before .before .before .args in
-    let low = lower (given .t .now) in
-    let word = bytes (given .word .now) in (
-      omega arith,
-      omega arith,
-      c .step .ensures
-          ∙ ap₂ (feed low) (now .inv .2) (sym (read-at of 0 _ _))
-          ∙ sym (remainder-more low (length (given .word .now)) word (now .p) (omega arith) (now .inv .1)),
-    )
+    let word = c .before .before .before .before .before .before .args .word .now in
+    (omega arith, omega arith, remainder-step _ word (now .p) _ _ (omega arith) (now .inv .1) (now .inv .2) (c .step .ensures))
 
 returns : tie.Need-returns Inv-loop μ-loop
 returns c =
