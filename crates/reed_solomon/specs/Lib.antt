@@ -1,6 +1,7 @@
--- Definition, and `Table` of Encoder, are what the promises speak of.
+-- Definition, `Table` of Encoder and `Made` are what the promises speak of.
 pub mod Definition
 pub mod Systematic
 pub mod Generator
 pub mod Encoder
+pub mod Made
 pub mod Residue

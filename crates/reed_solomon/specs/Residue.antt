@@ -3,7 +3,8 @@
 --   residue n k w   that remainder: what the first k symbols of w differ by from the check symbols that the others ask for
 --
 -- Proved: symbol by symbol it is found from the check symbols (residue-at); it has the word's first k syndromes (residue-syndrome, residue-syndromes),
--- so a word whose remainder is zero has none (residue-clean). An array of bytes is zero or not (all-zero, some-byte).
+-- so it is zero exactly if they are (residue-none, residue-clean, residue-zero); it depends on the first n symbols (residue-cong). An array of bytes is
+-- zero or not (all-zero, some-byte).
 use Prim.Native.Nat.{ℕ, _≤_, _<_}
 use mathlib.Core.Path.{_≡_, sym, ap, ap₂, _∙_, fun-ext}
 use mathlib.Core.Logic.{_≢_, by-cases}
@@ -12,16 +13,18 @@ use native.Mathlib.Decide.{decLt}
 use native.Mathlib.Omega.{arith}
 use lib.ListN.{length, getD, take}
 use lib.Seq.{length-take-le}
-use Rattle.field.specs.Field.{F, _⊕_, of, of-zero, of-nonzero, ⊕-zero, zero-⊕, ⊕-group}
+use Rattle.field.specs.Field.{F, 𝟎, _⊕_, of, of-zero, of-nonzero, ⊕-zero, zero-⊕, ⊕-group}
 use Rattle.series.specs.Series.{Series, O, O-at, _⊞_, ⊞-at}
 use Rattle.series.specs.Shift.{cut, cut-low, cut-unique}
 use Rattle.series.specs.Degree.{below, below-cut, below-⊞}
 use Rattle.series.specs.Array.{bytes, read-at, below-read}
 use Rattle.series.specs.Part.{read-take}
 use Rattle.series.specs.Value.{value, value-more, value-cong, value-zero}
+use Rattle.series.specs.Interpolation.{interpolate, interpolate-unique}
 use Rattle.kernel.specs.Store.{cut-cong}
-use Rattle.reed_solomon.specs.Definition.{root, syndrome, check-symbols, systematic}
-use Rattle.reed_solomon.specs.Systematic.{syndrome-is, syndrome-cong, syndrome-⊞, below-check-symbols, systematic-low, systematic-data, systematic-zero}
+use Rattle.reed_solomon.specs.Definition.{root, syndrome, upper, check-symbols, systematic}
+use Rattle.reed_solomon.specs.Systematic.{roots-distinct, syndrome-is, syndrome-cong, syndrome-⊞, upper-low, upper-high}
+use Rattle.reed_solomon.specs.Systematic.{below-check-symbols, systematic-low, systematic-data, systematic-zero}
 
 unfoldable pub residue : ℕ → ℕ → Series → Series
 residue n k w = cut k w ⊞ check-symbols n k w
@@ -33,6 +36,16 @@ residue-at n k w i h = ⊞-at _ _ i ∙ ap (λ (s : F). s ⊕ check-symbols n k 
 pub below-residue : (n k : ℕ) (w : Series) → below k (residue n k w)
 unfolding residue
 below-residue n k w = below-⊞ k _ _ (below-cut k w) (below-check-symbols n k w)
+
+pub residue-cong : (n k : ℕ) (f g : Series) → k ≤ n → ((i : ℕ) → i < n → f i ≡ g i) → residue n k f ≡ residue n k g
+unfolding residue check-symbols
+residue-cong n k f g room same =
+    ap₂ _⊞_ (cut-cong k f g (λ i h. same i (omega arith)))
+    (ap (interpolate k root) (fun-ext (syndrome-cong n (upper k f) (upper k g) (λ i h. above i h (decLt i k)))))
+  where
+    above : (i : ℕ) → i < n → Dec (i < k) → upper k f i ≡ upper k g i
+    above i h (yes l) = upper-low k f i l ∙ sym (upper-low k g i l)
+    above i h (no l) = upper-high k f i (omega arith) ∙ same i h ∙ sym (upper-high k g i (omega arith))
 
 module _ (n k : ℕ) (w : Series) (small : k < 255) (room : k ≤ n) where
   -- the word is its residue and a word of the code
@@ -51,9 +64,19 @@ module _ (n k : ℕ) (w : Series) (small : k < 255) (room : k ≤ n) where
       ∙ ⊕-zero _)
 
   -- of a clean word
+  pub residue-none : ((i : ℕ) → i < k → residue n k w i ≡ 𝟎) → (j : ℕ) → j < k → syndrome n w j ≡ 𝟎
+  residue-none z j h = sym (residue-syndrome j h) ∙ value-zero k _ (root j) z
+
   pub residue-clean : residue n k w ≡ O → O ≡ cut k (syndrome n w)
   residue-clean z =
-      sym (cut-unique k (syndrome n w) O (λ j h. sym (residue-syndrome j h) ∙ rw z (value-zero k O (root j) (λ i _. O-at i)) ∙ sym (O-at j)) (λ j _. O-at j))
+      sym (cut-unique k (syndrome n w) O (λ j h. residue-none (λ i _. ap (λ (f : Series). f i) z ∙ O-at i) j h ∙ sym (O-at j)) (λ j _. O-at j))
+
+  -- k distinct roots: a polynomial below k with none of their values is zero
+  pub residue-zero : ((j : ℕ) → j < k → syndrome n w j ≡ 𝟎) → (i : ℕ) → i < k → residue n k w i ≡ 𝟎
+  residue-zero z i h =
+      interpolate-unique k (residue n k w) O root (roots-distinct k small)
+      (λ j l. residue-syndrome j l ∙ z j l ∙ sym (value-zero k O (root j) (λ i _. O-at i))) i h
+      ∙ O-at i
 
   -- from the array that holds it
   pub residue-syndromes : (r : List ℕ) → k ≤ length r → bytes r ≡ residue n k w
