@@ -163,9 +163,11 @@ pub part-length : (n i k : ℕ) (b : List ℕ) → k ≡ n → i * n + n ≤ len
 part-length n i k b e h =
     ap (λ k. length (take k (drop (i * n) b))) e ∙ length-take-le n (drop (i * n) b) (omega (arith, length-drop (i * n) b))
 
+pub part-is : (n i k : ℕ) (b : List ℕ) → k ≡ n → i * n + n ≤ length b → bytes (take k (drop (i * n) b)) ≡ cut n (subword n (bytes b) i)
+part-is n i k b e h = ap (λ k. bytes (take k (drop (i * n) b))) e ∙ subword-part n b i h
+
 part-at : (n i k : ℕ) (b : List ℕ) → k ≡ n → i * n + n ≤ length b → (q : ℕ) → q < n → bytes (take k (drop (i * n) b)) q ≡ subword n (bytes b) i q
-part-at n i k b e h q l =
-    ap (λ k. bytes (take k (drop (i * n) b)) q) e ∙ ap (λ (f : Series). f q) (subword-part n b i h) ∙ cut-low n _ q l
+part-at n i k b e h q l = ap (λ (f : Series). f q) (part-is n i k b e h) ∙ cut-low n _ q l
 
 pub part-syndrome : (n i k : ℕ) (b : List ℕ) → k ≡ n → i * n + n ≤ length b
     → syndrome (length (take k (drop (i * n) b))) (bytes (take k (drop (i * n) b))) ≡ syndrome n (subword n (bytes b) i)
