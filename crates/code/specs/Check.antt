@@ -4,38 +4,41 @@
 --   table t          a table of syndromes: row i as a series, zero where nothing is stored
 --   rows r f         the rows f 0, .., f (r - 1), then zeros
 --   received p s k   the syndromes j < k of the subwords of the block s
---   sums p s w       the words that a codeword has to be checked for: the nested words, then the subwords
+--   sums p s w       the m words that a codeword has to be checked for: the nested words, then the subwords from v on
+--   Vanish p s w     the syndromes below `checks p w` of word w are zero
 --
--- Proved: a block is a codeword exactly if syndrome j of `sums p s w` is zero for each j below `checks p w` (codeword-sums, sums-codeword), so the check may
--- end at the first that is not (check-passes, check-fails).
-use Prim.Native.Nat.{ℕ, zero, suc, _+_, _-_, _*_, _≤_, _<_}
+-- Proved: a block of a valid profile is a codeword exactly if all m words vanish (codeword-sums, sums-codeword); a word does exactly if its remainder is
+-- zero (vanish-zeros, zeros-vanish). So the check may end at the first symbol that is not (check-passes, check-fails).
+use Prim.Native.Nat.{ℕ, zero, suc, _+_, _*_, _≤_, _<_}
 use mathlib.Core.Path.{_≡_, sym, ap, _∙_, fun-ext}
 use mathlib.Core.Logic.{_≢_}
 use mathlib.Core.Bool.{true, false, cond}
 use mathlib.Core.List.{List, []}
 use native.Mathlib.Decide.{decLt, ℕ-discrete}
-use native.Mathlib.Nat.{add-sub-cancel-left, suc-mul, mul-le-mul-right}
+use native.Mathlib.Nat.{suc-mul, mul-le-mul-right}
 use native.Mathlib.Omega.{arith}
 use lib.Dec.{ltb}
 use lib.ListN.{length, getD, set, take, drop, replicate, length-drop}
 use lib.Seq.{getD-set-same, getD-set-other, length-take-le}
 use borrow.Author.Tests.{lt-ltb, le-ltb}
 use Rattle.field.specs.declared.Gf.{Gf}
-use Rattle.field.specs.Field.{𝟎, of, val, val-zero}
+use Rattle.field.specs.Field.{𝟎, of, of-zero, of-nonzero, val, val-zero}
 use Rattle.series.specs.Series.{Series, O}
 use Rattle.series.specs.Shift.{cut, cut-none, cut-low}
 use Rattle.series.specs.Degree.{below-O, below-cut-eq}
 use Rattle.series.specs.Decide.{holds, holds-yes, holds-no}
-use Rattle.series.specs.Array.{bytes, read-zeros}
+use Rattle.series.specs.Array.{bytes, read-at, read-zeros}
 use Rattle.series.specs.Part.{read-take}
 use Rattle.polynomial.specs.Polynomial.{row, row-zeros}
 use Rattle.profile.specs.declared.Profile.{Profile}
 use Rattle.profile.specs.Definition.{checks, block-size}
-use Rattle.profile.specs.Valid.{Valid, checks-is, checks-high}
+use Rattle.profile.specs.Valid.{Valid, checks-is, checks-high, checks-most, checks-room}
 use Rattle.reed_solomon.specs.Definition.{syndrome}
 use Rattle.reed_solomon.specs.Systematic.{syndrome-cong}
+use Rattle.reed_solomon.specs.Residue.{residue, residue-cong, residue-none, residue-zero}
 use Rattle.code.specs.Definition.{subword, nested, Codeword}
 use Rattle.code.specs.Encoding.{codeword?}
+use Rattle.code.specs.Triangle.{checked-triangle, triangle-codeword}
 use Rattle.code.specs.Combined.{subword-part}
 
 pub record Fits (p : Profile) (b : List ℕ) : Type 0 where
@@ -87,7 +90,7 @@ rows-more t i r f h e q = fun-ext (λ a. go a (ℕ-discrete a i) (decLt a i))
 -- ---- the codeword check
 
 abbrev pub sums : Profile → Series → ℕ → Series
-sums p s w = cond (ltb w (p .nested)) (nested p s w) (subword (p .length) s (w - p .nested))
+sums p s w = cond (ltb w (p .nested)) (nested p s w) (subword (p .length) s w)
 
 abbrev pub Vanish : Profile → Series → ℕ → Type 0
 Vanish p s w = (j : ℕ) → j < checks p w → syndrome (p .length) (sums p s w) j ≡ 𝟎
@@ -96,38 +99,63 @@ module _ (p : Profile) (s : Series) where
   pub sums-low : (w : ℕ) → w < p .nested → sums p s w ≡ nested p s w
   sums-low w h = rw (lt-ltb w (p .nested) h)
 
-  pub sums-high : (w : ℕ) → p .nested ≤ w → sums p s w ≡ subword (p .length) s (w - p .nested)
+  pub sums-high : (w : ℕ) → p .nested ≤ w → sums p s w ≡ subword (p .length) s w
   sums-high w h = rw (le-ltb w (p .nested) h)
 
-  sums-subword : (i : ℕ) → sums p s (p .nested + i) ≡ subword (p .length) s i
-  sums-subword i = sums-high (p .nested + i) (omega arith) ∙ rw add-sub-cancel-left
-
-  pub codeword-sums : Codeword p s → (w : ℕ) → w < p .nested + p .subwords → Vanish p s w
+  pub codeword-sums : Codeword p s → (w : ℕ) → w < p .subwords → Vanish p s w
   codeword-sums c w h j q = go (decLt w (p .nested))
     where
       go : Dec (w < p .nested) → syndrome (p .length) (sums p s w) j ≡ 𝟎
       go (yes l) = rw (sums-low w l) (c .nested-words w l j (omega (arith, checks-is p w)))
-      go (no l) =
-          rw (sums-high w (omega arith)) (c .subwords (w - p .nested) (omega arith) j (omega (arith, checks-high p w (omega arith))))
+      go (no l) = rw (sums-high w (omega arith)) (c .subwords w h j (omega (arith, checks-high p w (omega arith))))
 
-  pub sums-codeword : ((w : ℕ) → w < p .nested + p .subwords → Vanish p s w) → Codeword p s
-  sums-codeword h = record {
-    subwords = λ i l j q. rw (sums-subword i) at (h (p .nested + i) (omega arith) j (omega (arith, checks-high p (p .nested + i) (omega arith))));
-    nested-words = λ l k j q. rw (sums-low l k) at (h l (omega arith) j (omega (arith, checks-is p l)));
-  }
+  module _ (ok : Valid p) where
+    -- the subwords below v follow from the others and the nested words: the triangular form
+    pub sums-codeword : ((w : ℕ) → w < p .subwords → Vanish p s w) → Codeword p s
+    sums-codeword h =
+        triangle-codeword p s ok
+        (checked-triangle p s ok (λ i l u j q. rw (sums-high i l) at (h i u j (omega (arith, checks-high p i l))))
+        (λ l u j q. rw (sums-low l u) at (h l (omega arith) j (omega (arith, checks-is p l)))))
 
-  pub check-passes : ((w : ℕ) → w < p .nested + p .subwords → Vanish p s w) → true ≡ holds (codeword? p s)
-  check-passes h = sym (holds-yes (codeword? p s) (sums-codeword h))
+    -- word w by its remainder, which the array r holds
+    module _ (w k : ℕ) (r : List ℕ) (count : k ≡ checks p w) (is : bytes r ≡ residue (p .length) k (sums p s w)) where
+      small : k < 255
+      small = omega (arith, count, checks-most p ok w)
 
-  pub check-fails : (w j : ℕ) → w < p .nested + p .subwords → j < checks p w → syndrome (p .length) (sums p s w) j ≢ 𝟎 → false ≡ holds (codeword? p s)
-  check-fails w j h q n = sym (holds-no (codeword? p s) (λ c. n (codeword-sums c w h j q)))
+      room : k ≤ p .length
+      room = omega (arith, count, checks-room p ok w)
 
--- syndromes of a word that stands in the first n entries of an array
+      at : (i : ℕ) → residue (p .length) k (sums p s w) i ≡ of (getD r i 0)
+      at i = ap (λ (f : Series). f i) (sym is) ∙ read-at of 0 r i
+
+      pub zeros-vanish : ((i : ℕ) → i < k → getD r i 0 ≡ 0) → Vanish p s w
+      zeros-vanish z j h =
+          residue-none (p .length) k (sums p s w) small room (λ i l. at i ∙ ap of (z i l) ∙ of-zero) j (omega (arith, count))
+
+      pub vanish-zeros : Vanish p s w → (i : ℕ) → i < k → of (getD r i 0) ≡ 𝟎
+      vanish-zeros v i h = sym (at i) ∙ residue-zero (p .length) k (sums p s w) small room (λ j l. v j (omega (arith, count))) i h
+
+      pub check-fails : (j : ℕ) → w < p .subwords → j < k → getD r j 0 ≢ 0 → getD r j 0 < 256 → false ≡ holds (codeword? p s)
+      check-fails j h l n b =
+          sym (holds-no (codeword? p s) (λ c. of-nonzero (getD r j 0) b n (vanish-zeros (codeword-sums c w h) j l)))
+
+    pub check-passes : ((w : ℕ) → w < p .subwords → Vanish p s w) → true ≡ holds (codeword? p s)
+    check-passes h = sym (holds-yes (codeword? p s) (sums-codeword h))
+
+-- ---- a word that stands in the first n entries of an array
+
+prefix-at : (n : ℕ) (l : List ℕ) (g : Series) → bytes l ≡ cut n g → (q : ℕ) → q < n → bytes (take n l) q ≡ g q
+prefix-at n l g e q b = read-take of 0 n l q b ∙ ap (λ (f : Series). f q) e ∙ cut-low n g q b
+
 pub prefix-syndrome : (n : ℕ) (l : List ℕ) (g : Series) (j : ℕ) → n ≤ length l → bytes l ≡ cut n g
     → syndrome (length (take n l)) (bytes (take n l)) j ≡ syndrome n g j
 prefix-syndrome n l g j h e =
-    ap (λ k. syndrome k (bytes (take n l)) j) (length-take-le n l h)
-    ∙ syndrome-cong n _ g (λ q b. read-take of 0 n l q b ∙ ap (λ (f : Series). f q) e ∙ cut-low n g q b) j
+    ap (λ k. syndrome k (bytes (take n l)) j) (length-take-le n l h) ∙ syndrome-cong n _ g (prefix-at n l g e) j
+
+pub prefix-residue : (n k : ℕ) (l : List ℕ) (g : Series) → k ≤ n → n ≤ length l → bytes l ≡ cut n g
+    → residue (length (take n l)) k (bytes (take n l)) ≡ residue n k g
+prefix-residue n k l g r h e =
+    ap (λ m. residue m k (bytes (take n l))) (length-take-le n l h) ∙ residue-cong n k _ g r (prefix-at n l g e)
 
 -- ---- a subword as a part of the block, k being the number of its symbols that the code has
 
@@ -135,9 +163,18 @@ pub part-length : (n i k : ℕ) (b : List ℕ) → k ≡ n → i * n + n ≤ len
 part-length n i k b e h =
     ap (λ k. length (take k (drop (i * n) b))) e ∙ length-take-le n (drop (i * n) b) (omega (arith, length-drop (i * n) b))
 
+pub part-is : (n i k : ℕ) (b : List ℕ) → k ≡ n → i * n + n ≤ length b → bytes (take k (drop (i * n) b)) ≡ cut n (subword n (bytes b) i)
+part-is n i k b e h = ap (λ k. bytes (take k (drop (i * n) b))) e ∙ subword-part n b i h
+
+part-at : (n i k : ℕ) (b : List ℕ) → k ≡ n → i * n + n ≤ length b → (q : ℕ) → q < n → bytes (take k (drop (i * n) b)) q ≡ subword n (bytes b) i q
+part-at n i k b e h q l = ap (λ (f : Series). f q) (part-is n i k b e h) ∙ cut-low n _ q l
+
 pub part-syndrome : (n i k : ℕ) (b : List ℕ) → k ≡ n → i * n + n ≤ length b
     → syndrome (length (take k (drop (i * n) b))) (bytes (take k (drop (i * n) b))) ≡ syndrome n (subword n (bytes b) i)
 part-syndrome n i k b e h =
-    ap (λ l. syndrome l (bytes (take k (drop (i * n) b)))) (part-length n i k b e h)
-    ∙ ap (λ k. syndrome n (bytes (take k (drop (i * n) b)))) e
-    ∙ fun-ext (λ j. syndrome-cong n _ _ (λ q l. ap (λ (f : Series). f q) (subword-part n b i h) ∙ cut-low n _ q l) j)
+    ap (λ l. syndrome l (bytes (take k (drop (i * n) b)))) (part-length n i k b e h) ∙ fun-ext (syndrome-cong n _ _ (part-at n i k b e h))
+
+pub part-residue : (n i k : ℕ) (b : List ℕ) (r : ℕ) → r ≤ n → k ≡ n → i * n + n ≤ length b
+    → residue (length (take k (drop (i * n) b))) r (bytes (take k (drop (i * n) b))) ≡ residue n r (subword n (bytes b) i)
+part-residue n i k b r room e h =
+    ap (λ l. residue l r (bytes (take k (drop (i * n) b)))) (part-length n i k b e h) ∙ residue-cong n r _ _ room (part-at n i k b e h)

@@ -2,24 +2,23 @@
 --
 --   combined n s c a r   the sum of c k times subword k of the block s, over the r subwords from a on
 --
--- Proved: no subword and one subword more (combined-none, combined-more); a nested word and what is carried to a subword are such sums (nested-combined, carried-combined, carried-none); a subword as a
--- part of the bytes of a block (subword-part), and a multiple of it added to a word (add-part).
+-- Proved: no subword and one subword more (combined-none, combined-more); what is carried to a subword is such a sum (carried-combined, carried-none); a
+-- subword as a part of the bytes of a block (subword-part), and a multiple of it added to a word (add-part).
 use Prim.Native.Nat.{ℕ, suc, _+_, _-_, _*_, _≤_, _<_}
 use mathlib.Core.Path.{_≡_, refl, sym, ap, ap₂, _∙_, fun-ext}
 use mathlib.Core.List.{List, _++_}
 use native.Mathlib.Decide.{decLt}
-use native.Mathlib.Nat.{zero-add}
 use native.Mathlib.Omega.{arith}
 use lib.ListN.{length, take, drop as drop-list, replicate}
-use Rattle.field.specs.Field.{F, α, _⊕_, _⊙_, ⊕-zero, pow, of, of-zero}
-use Rattle.series.specs.Sum.{sum, sum-none, sum-suc, sum-cong}
+use Rattle.field.specs.Field.{F, _⊕_, _⊙_, ⊕-zero, of, of-zero}
+use Rattle.series.specs.Sum.{sum, sum-none, sum-suc}
 use Rattle.series.specs.Series.{Series, O, O-at, K, _⊞_, _⊠_, ⊞-at, K-⊠-at}
 use Rattle.series.specs.Shift.{cut, cut-none, cut-unique, cut-⊞, cut-K-⊠, drop, drop-at}
 use Rattle.series.specs.Degree.{below-O, below-cut, below-cut-eq, below-K-⊠}
 use Rattle.series.specs.Array.{bytes, read-zeros}
 use Rattle.series.specs.Part.{read-take, read-drop, read-left, read-right, read-part}
 use Rattle.profile.specs.declared.Profile.{Profile}
-use Rattle.code.specs.Definition.{subword, nested}
+use Rattle.code.specs.Definition.{subword}
 use Rattle.code.specs.Triangle.{ratio, carried, carried-high}
 
 unfoldable pub combined : ℕ → Series → (ℕ → F) → ℕ → ℕ → Series
@@ -56,10 +55,6 @@ module _ (n : ℕ) (s : Series) (c : ℕ → F) (a : ℕ) where
       ∙ cut-⊞ n _ _
       ∙ ap (λ (t : Series). cut n (combined n s c a (k - a)) ⊞ t) (cut-K-⊠ n _ _)
       ∙ ap (λ (i : ℕ). cut n (combined n s c a (k - a)) ⊞ K (c i) ⊠ cut n (subword n s i)) f)
-
-pub nested-combined : (p : Profile) (s : Series) (l : ℕ) → combined (p .length) s (λ i. pow α (i * l)) 0 (p .subwords) ≡ nested p s l
-unfolding combined nested
-nested-combined p s l = fun-ext (λ q. sum-cong (p .subwords) _ _ (λ i h. ap (λ (k : ℕ). pow α (k * l) ⊙ subword (p .length) s k q) (zero-add i)))
 
 pub carried-combined : (p : Profile) (s : Series) (i : ℕ) → combined (p .length) s (ratio (p .nested) i) (suc i) (p .subwords - suc i) ≡ carried p s i
 unfolding combined carried

@@ -6,4 +6,5 @@ pub mod Triangle
 pub mod Right
 pub mod Encoding
 pub mod Combined
+pub mod Horner
 pub mod Check

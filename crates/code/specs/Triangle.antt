@@ -6,7 +6,7 @@
 --   Triangle p s    each corner has zero syndromes below `checks p i`
 --
 -- Proved: nothing is carried from subword v on (carried-high); for a valid profile, a block is a codeword just where it is triangular
--- (codeword-triangle, triangle-codeword).
+-- (codeword-triangle, triangle-codeword), and for that the nested words and the subwords from v on are enough (checked-triangle).
 use Prim.Native.Nat.{ℕ, zero, suc, _+_, _-_, _≤_, _<_}
 use mathlib.Core.Path.{_≡_, refl, sym, _∙_, ap, ap₂}
 use mathlib.Core.Bool.{cond}
@@ -108,19 +108,25 @@ module _ (p : Profile) (s : Series) where
       ∙ ap (λ t. each j i ⊕ t) (syndrome-sum (p .subwords - suc i) (p .length) _ (λ k. subword (p .length) s (suc i + k)) j)
 
   module _ (ok : Valid p) where
-    pub codeword-triangle : Codeword p s → Triangle p s
+    -- the first v subwords are not asked for
+    pub checked-triangle : ((i : ℕ) → p .nested ≤ i → i < p .subwords → InCode (p .length) (p .t0) (subword (p .length) s i))
+        → ((l : ℕ) → l < p .nested → InCode (p .length) (capability p (p .nested - l)) (nested p s l)) → Triangle p s
     unfolding each
-    codeword-triangle c i h j q = corner-syndrome i j ∙ go (decLt i (p .nested))
+    checked-triangle high low i h j q = corner-syndrome i j ∙ go (decLt i (p .nested))
       where
         go : Dec (i < p .nested) → each j i ⊕ above (p .subwords) (p .nested) (each j) i ≡ 𝟎
         go (yes below) =
             ⊙-factor (newton i i) _ (newton-nonzero i i (omega arith) (omega arith))
             (sym (corner-low (p .subwords) (p .nested) (each j) i below h (omega arith))
             ∙ newton-zero (p .subwords) (each j) i (λ l u.
-            sym (syndrome-nested p s l j) ∙ c .nested-words l (omega arith) j (omega (arith, checks-is p l, checks-mono p ok l i u))))
+            sym (syndrome-nested p s l j) ∙ low l (omega arith) j (omega (arith, checks-is p l, checks-mono p ok l i u))))
         go (no from) =
-            ap₂ _⊕_ (c .subwords i h j (omega (arith, checks-high p i (omega arith)))) (above-high (p .subwords) (p .nested) (each j) i (omega arith))
+            ap₂ _⊕_ (high i (omega arith) h j (omega (arith, checks-high p i (omega arith))))
+            (above-high (p .subwords) (p .nested) (each j) i (omega arith))
             ∙ ⊕-zero 𝟎
+
+    pub codeword-triangle : Codeword p s → Triangle p s
+    codeword-triangle c = checked-triangle (λ i _ h. c .subwords i h) (c .nested-words)
 
     module _ (t : Triangle p s) where
       -- from the last subword down: r of them are left

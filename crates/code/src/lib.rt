@@ -1,17 +1,17 @@
 // Codewords of a profile: syndromes of a block, nested words, the codeword check.
-ghost use Prim.Native.Nat.{_+_, _*_, _≤_, _<_};
+ghost use Prim.Native.Nat.{_≤_, _<_};
 ghost use mathlib.Core.Path.{_≡_};
 ghost use lib.ListN.{length};
-ghost use Rattle.field.specs.Field.{val};
-ghost use Rattle.series.specs.Series.{K, _⊞_, _⊠_};
+ghost use Rattle.field.specs.Field.{α, pow, val};
+ghost use Rattle.series.specs.Series.{O, K, _⊞_, _⊠_};
 ghost use Rattle.series.specs.Shift.{cut};
 ghost use Rattle.series.specs.Array.{bytes};
 ghost use Rattle.series.specs.Decide.{holds};
 ghost use Rattle.reed_solomon.specs.Encoder.{Table};
+ghost use Rattle.reed_solomon.specs.Residue.{residue as Residue};
 ghost use Rattle.code.specs.Definition.{subword, nested as Nested};
 ghost use Rattle.code.specs.Encoding.{codeword?};
 ghost use Rattle.code.specs.Check.{Fits, table, received, sums};
-use field::Exponent;
 use field::Gf;
 use polynomial::SYNDROMES;
 use profile::Profile;
@@ -34,21 +34,53 @@ pub fn add_subword(p: Profile, c: Gf, block: &[u8], i: usize, word: &mut [u8])
     kernel::add_multiple(&row, &block[a..e], &mut word[..n]);
 }
 
-// Nested word l of a block, document 01's nested sum.
+// α times each symbol.
+fn double(word: &mut [u8])
+    ensures { λ _. ⌜ bytes (now (word .exit)) ≡ K α ⊠ bytes (now (word .entry)) ⌝ }
+{
+    let mut q: usize = 0;
+    while q < word.len() {
+        word[q] = kernel::twice(word[q]);
+        q = q + 1;
+    }
+}
+
+// One step of Horner's rule: α^l times the word, and a subword.
+fn horner(l: usize, subword: &[u8], word: &mut [u8])
+    requires { ⌜ length (now subword) ≡ length (now word) ⌝ }
+    ensures { λ _. ⌜ bytes (now (word .exit)) ≡ K (pow α l) ⊠ bytes (now (word .entry)) ⊞ bytes (now (subword .entry)) ⌝ }
+{
+    let mut d: usize = 0;
+    while d < l {
+        double(word);
+        d = d + 1;
+    }
+    kernel::add(subword, word);
+}
+
+// A word of zeros becomes nested word l: the subwords from the last to the first.
+fn nest(p: Profile, block: &[u8], l: usize, word: &mut [u8])
+    requires { ⌜ Fits p (now block) × (length (now word) ≡ p .length) × (bytes (now word) ≡ O) ⌝ }
+    ensures { λ _. ⌜ bytes (now (word .exit)) ≡ cut (p .length) (Nested p (bytes (now (block .entry))) l) ⌝ }
+{
+    let n = p.length as usize;
+    let mut i = p.subwords as usize;
+    while i > 0 {
+        i = i - 1;
+        let a = i * n;
+        let e = a + n;
+        horner(l, &block[a..e], word);
+    }
+}
+
+// Nested word l of a block, document 01's nested sum. As l is at most 2, doubling is faster than rows of products.
 pub fn nested_word(p: Profile, block: &[u8], l: usize) -> [u8; POSITIONS]
     requires { ⌜ Fits p (now block) × (l < p .nested) ⌝ }
     ensures { λ r. ⌜ bytes r ≡ cut (p .length) (Nested p (bytes (now (block .entry))) l) ⌝ }
 {
-    let m = p.subwords as usize;
+    let n = p.length as usize;
     let mut word = [0u8; POSITIONS];
-    let mut exponent: usize = 0;
-    let mut i: usize = 0;
-    while i < m {
-        let c = Exponent(exponent).power();
-        add_subword(p, c, block, i, &mut word);
-        exponent = exponent + l;
-        i = i + 1;
-    }
+    nest(p, block, l, &mut word[..n]);
     word
 }
 
@@ -80,36 +112,41 @@ pub fn syndromes(p: Profile, block: &[u8], k: usize) -> [[Gf; SYNDROMES]; SUBWOR
     syndrome_rows(p, &t, block, k)
 }
 
-// The words of the codeword check in their order: the nested words, then the subwords.
-fn word_of(p: Profile, block: &[u8], w: usize) -> [u8; POSITIONS]
-    requires { ⌜ Fits p (now block) × (w < p .nested + p .subwords) ⌝ }
-    ensures { λ r. ⌜ bytes r ≡ cut (p .length) (sums p (bytes (now (block .entry))) w) ⌝ }
+// The remainder of word w of the codeword check: nested word w below v, and from there on subword w, which is a part of the block.
+fn residue_of(p: Profile, t: &[u64], k: usize, block: &[u8], w: usize) -> [u8; SYNDROMES]
+    requires { ⌜ Fits p (now block) × Table k (now t) × (k ≤ 48) × (k ≤ p .length) × (w < p .subwords) ⌝ }
+    ensures { λ r. ⌜ bytes r ≡ Residue (p .length) k (sums p (bytes (now (block .entry))) w) ⌝ }
 {
+    let n = p.length as usize;
     let v = p.nested as usize;
     if w < v {
-        return nested_word(p, block, w);
+        let word = nested_word(p, block, w);
+        return reed_solomon::residue(t, k, &word[..n]);
     }
-    let mut word = [0u8; POSITIONS];
-    add_subword(p, Gf::ONE, block, w - v, &mut word);
-    word
+    let a = w * n;
+    let e = a + n;
+    reed_solomon::residue(t, k, &block[a..e])
 }
 
-// Whether the block is a codeword: sums and syndromes are walked up to the first that is not zero.
+// Whether the block is a codeword: m words and the symbols of their remainders are walked up to the first that is not zero.
+// A table is made for each number of check symbols.
 pub fn is_codeword(p: Profile, block: &[u8]) -> bool
     requires { ⌜ Fits p (now block) ⌝ }
     ensures { λ r. ⌜ r ≡ holds (codeword? p (bytes (now (block .entry)))) ⌝ }
 {
-    let n = p.length as usize;
-    let words = p.nested as usize + p.subwords as usize;
+    let m = p.subwords as usize;
+    let mut t = reed_solomon::room();
+    let mut made: usize = 0;
     let mut clean = true;
     let mut w: usize = 0;
-    'words: while w < words {
+    'words: while w < m {
         let k = p.checks(w as u8) as usize;
-        let word = word_of(p, block, w);
+        reed_solomon::prepare(&mut t, made, k);
+        made = k;
+        let r = residue_of(p, &t, k, block, w);
         let mut j: usize = 0;
         while j < k {
-            let s = reed_solomon::syndrome(&word[..n], j);
-            if !s.is_zero() {
+            if r[j] != 0 {
                 clean = false;
                 break 'words;
             }

@@ -1,10 +1,10 @@
 -- From the code to the definition.
 --
 -- Proved: a copy goes on byte by byte (copied-more); the changed symbols are counted line by line (changed-none, changed-more); what the questions let
--- pass (passed); each end of decoding gives what the definition says (gives-unsettled, gives-foreign, gives-read).
+-- pass (passed); a codeword and each end of decoding give what the definition says (gives-kept; unsettled-is, foreign-is with gives-refused, gives-read).
 use Prim.Native.Nat.{ℕ, _+_, _≤_, _<_}
 use mathlib.Core.Path.{_≡_, refl, sym, ap, _∙_}
-use mathlib.Core.Bool.{true, false}
+use mathlib.Core.Bool.{true, false, decide-iff}
 use mathlib.Core.List.{List}
 use native.Mathlib.Decide.{ℕ-discrete}
 use native.Mathlib.Numerals.{add-one}
@@ -28,7 +28,7 @@ use Rattle.code.specs.Encoding.{codeword?}
 use Rattle.solver.specs.declared.Form.{Form}
 use Rattle.staged.specs.Definition.{total, count-of, settled, report, decode}
 use Rattle.staged.specs.Count.{total-cong}
-use Rattle.staged.specs.Clean.{untouched}
+use Rattle.staged.specs.Clean.{untouched, decode-codeword}
 use Rattle.stages.specs.declared.Line.{Line}
 use Rattle.stages.specs.declared.Ending.{Ending}
 use Rattle.stages.specs.View.{verdict-of, says, Reached}
@@ -71,6 +71,14 @@ passed b d o p e small =
 pub gives-refused : (f : Form) (q : Refusal) (o e : List ℕ) (a : Reading) → a .answer ≡ answer.Refused q → e ≡ o → Tells f untouched (a .report)
     → Gives f (refused q) o e a
 gives-refused f q o e a says same tells = record { answer = says; block = same; report = tells }
+
+-- a codeword is not decoded
+pub gives-kept : (p : Profile) (f : Form) (b o c : List ℕ) (a : Reading) → Valid p → length b ≡ block-size p → ((i : ℕ) → getD b i 0 < 256)
+    → holds (codeword? p (bytes b)) ≡ true → c ≡ b → a .answer ≡ answer.Accepted → Tells f untouched (a .report)
+    → Gives f (concluded p (decode p (bytes b))) o c a
+gives-kept p f b o c a ok long small code copied says tells =
+    rw (decode-codeword p ok (bytes b) (decide-iff (codeword? p (bytes b)) .0 code))
+    (record { answer = says; block = copied ∙ sym (word-bytes (block-size p) b long small); report = tells })
 
 module _ (p : Profile) (f : Form) (y b : Series) (e : Ending) (r : Reached p f y b e) where
   pub unsettled-is : e .settled ≡ false → concluded p (decode p y) ≡ refused (Unsettled (e .stage))

@@ -29,7 +29,7 @@ pub struct Report {
     pub last: u8,
 }
 
-// A refusal comes with the empty report: clean lines, nothing changed, stage 0.
+// A refusal comes with the empty report.
 pub struct Reading {
     pub answer: Answer,
     pub report: Report,
@@ -84,20 +84,28 @@ fn changed(lines: [Line; SUBWORDS], m: usize) -> u16
     sum
 }
 
+// The empty report: clean lines, nothing changed, stage 0.
+fn empty(form: Form) -> Report
+    ensures { λ r. ⌜ Tells form untouched r ⌝ }
+{
+    let lines = stages::start(form);
+    Report {
+        lines: lines,
+        changed: 0,
+        last: 0,
+    }
+}
+
 // A refusal leaves every byte of the output.
 fn refuse(q: Refusal, form: Form, out: &mut [u8]) -> Reading
     ensures answer { λ r. ⌜ r .answer ≡ Answer.Refused q ⌝ }
     ensures same { λ _. ⌜ now (out .exit) ≡ now (out .entry) ⌝ }
     ensures report { λ r. ⌜ Tells form untouched (r .report) ⌝ }
 {
-    let lines = stages::start(form);
+    let report = empty(form);
     Reading {
         answer: Answer::Refused(q),
-        report: Report {
-            lines: lines,
-            changed: 0,
-            last: 0,
-        },
+        report: report,
     }
 }
 
@@ -152,11 +160,18 @@ fn decode_copy(p: Profile, form: Form, input: &[u8], block: &mut [u8], out: &mut
     conclude(p, form, e, block, out)
 }
 
-// Makes room for the copy.
+// A codeword goes out as it came, and no stage is entered. For any other block room for a copy is made.
 fn read(p: Profile, form: Form, input: &[u8], out: &mut [u8]) -> Reading
     requires { ⌜ Fits p (now input) × (length (now out) ≡ length (now input)) ⌝ }
     ensures { λ r. ⌜ Gives form (concluded p (Decode p (bytes (now (input .entry))))) (now (out .entry)) (now (out .exit)) r ⌝ }
 {
+    if code::is_codeword(p, input) {
+        copy(input, out);
+        return Reading {
+            answer: Answer::Accepted,
+            report: empty(form),
+        };
+    }
     let n = input.len();
     let mut block = room();
     decode_copy(p, form, input, &mut block[..n], out)

@@ -4,9 +4,8 @@
 --   Placed k q d e w   the first q symbols of d, with e added, stand in w from position k on
 --   Wrote p d i s t    the block t is the block s with subword i written, d being its data
 --   Upper p D s i      the subwords from i on of the block s are right for the data D
---   Made k t           t has room for a table, and holds the one for k check symbols if k is not 0
 use Prim.Native.Nat.{ℕ, zero, suc, _+_, _-_, _*_, _≤_, _<_}
-use mathlib.Core.Path.{_≡_, sym, ap, ap₂, _∙_, fun-ext, subst}
+use mathlib.Core.Path.{_≡_, sym, ap, ap₂, _∙_, fun-ext}
 use mathlib.Core.List.{List}
 use native.Mathlib.Decide.{decLt, ℕ-discrete}
 use native.Mathlib.Nat.{suc-mul, mul-le-mul-right}
@@ -22,7 +21,6 @@ use Rattle.series.specs.Part.{splice, splice-inside, splice-after, read-part, r
 use Rattle.profile.specs.declared.Profile.{Profile}
 use Rattle.profile.specs.Definition.{checks, room, data-start, data-size}
 use Rattle.profile.specs.Valid.{Valid, checks-room, data-start-most}
-use Rattle.reed_solomon.specs.Encoder.{Table}
 use Rattle.reed_solomon.specs.Definition.{root, syndrome, systematic, check-symbols, upper}
 use Rattle.code.specs.Definition.{subword}
 use Rattle.code.specs.Block.{Agree}
@@ -177,13 +175,3 @@ pub part-data : (p : Profile) (i a m : ℕ) (d : List ℕ) → a ≡ data-start 
     → (q : ℕ) → q < room p i → bytes (take m (drop-list a d)) q ≡ bytes d (data-start p i + q)
 part-data p i a m d ea em h q l =
     ap (λ (f : Series). f q) (read-part of 0 of-zero a m d h) ∙ cut-low m _ q (omega arith) ∙ drop-at a _ q ∙ ap (λ a. bytes d (a + q)) ea
-
--- ---- tables
-
--- t is room for a table, and holds the one for k check symbols if k is not 0
-pub record Made (k : ℕ) (t : List ℕ) : Type 0 where
-  pub size : length t ≡ 1536
-  pub table : 1 ≤ k → Table k t
-
-pub table-for : {k j : ℕ} {t : List ℕ} → k ≡ j → Table k t → Table j t
-table-for {k} {j} {t} e = subst (λ k. Table k t) e

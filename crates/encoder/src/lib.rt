@@ -14,7 +14,7 @@ ghost use Rattle.code.specs.Newton.{newton as Newton};
 ghost use Rattle.code.specs.Triangle.{carried as Carried};
 ghost use Rattle.code.specs.Check.{Fits};
 ghost use Rattle.encoder.specs.Definition.{asked, writing, written};
-ghost use Rattle.encoder.specs.Write.{filled, Wrote, Made};
+ghost use Rattle.encoder.specs.Write.{filled, Wrote};
 use code::POSITIONS;
 use field::Exponent;
 use field::Gf;
@@ -124,17 +124,6 @@ fn write_subword(p: Profile, t: &[u64], i: usize, input: &[u8], out: &mut [u8])
     fill(t, k, &e[..n], input, &mut out[a..b]);
 }
 
-// The table for k check symbols, made anew unless it was made for them.
-fn prepare(t: &mut [u64], made: usize, k: usize)
-    requires { ⌜ Made made (now t) × (1 ≤ k) × (k ≤ 48) ⌝ }
-    ensures { λ _. ⌜ Table k (now (t .exit)) ⌝ }
-{
-    if made == k {
-        return;
-    }
-    reed_solomon::table(k, t);
-}
-
 // The whole block. A table is made for each number of check symbols.
 fn write(p: Profile, input: &[u8], out: &mut [u8])
     requires { ⌜ Fits p (now out) × (length (now input) ≡ DataSize p) ⌝ }
@@ -148,7 +137,7 @@ fn write(p: Profile, input: &[u8], out: &mut [u8])
     while i > 0 {
         i = i - 1;
         let k = p.checks(i as u8) as usize;
-        prepare(&mut t, made, k);
+        reed_solomon::prepare(&mut t, made, k);
         made = k;
         let start = end - (n - k);
         write_subword(p, &t, i, &input[start..end], out);

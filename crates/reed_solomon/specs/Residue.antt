@@ -2,9 +2,9 @@
 --
 --   residue n k w   that remainder: what the first k symbols of w differ by from the check symbols that the others ask for
 --
--- Proved: it is found by the table (residue-table); it has the word's first k syndromes (residue-syndrome, residue-syndromes), so a word whose
--- remainder is zero has none (residue-clean). An array of bytes is zero or not by the bits of its entries, taken together: a loop that gathers them
--- goes on by bits-more.
+-- Proved: it is found by the table (residue-table); it has the word's first k syndromes (residue-syndrome, residue-syndromes), so it is zero exactly if they
+-- are (residue-none, residue-clean, residue-zero); it depends on the first n symbols (residue-cong). An array of bytes is zero or not by the bits of its
+-- entries, taken together: a loop that gathers them goes on by bits-more.
 use Prim.Native.Nat.{ℕ, _+_, _-_, _≤_, _<_}
 use mathlib.Core.Path.{_≡_, refl, sym, ap, ap₂, _∙_, fun-ext}
 use mathlib.Core.Logic.{_≢_, by-cases}
@@ -22,11 +22,13 @@ use Rattle.series.specs.Degree.{below, below-cut, below-cut-eq, below-⊞}
 use Rattle.series.specs.Array.{bytes, read-at, below-read}
 use Rattle.series.specs.Part.{read-take}
 use Rattle.series.specs.Value.{value, value-more, value-cong, value-zero}
+use Rattle.series.specs.Interpolation.{interpolate, interpolate-unique}
 use Rattle.kernel.specs.Store.{cut-cong}
 use Rattle.division.specs.Remainder.{remainder}
 use Rattle.division.specs.Multiples.{lower}
-use Rattle.reed_solomon.specs.Definition.{root, syndrome, check-symbols, systematic}
-use Rattle.reed_solomon.specs.Systematic.{syndrome-is, syndrome-cong, syndrome-⊞, below-check-symbols, systematic-low, systematic-data, systematic-zero}
+use Rattle.reed_solomon.specs.Definition.{root, syndrome, upper, check-symbols, systematic}
+use Rattle.reed_solomon.specs.Systematic.{roots-distinct, syndrome-is, syndrome-cong, syndrome-⊞, upper-low, upper-high}
+use Rattle.reed_solomon.specs.Systematic.{below-check-symbols, systematic-low, systematic-data, systematic-zero}
 use Rattle.reed_solomon.specs.Encoder.{Table, remainder-checks}
 
 unfoldable pub residue : ℕ → ℕ → Series → Series
@@ -50,6 +52,16 @@ residue-table n k t w r out h l p e o =
     ∙ cut-⊞ k _ _
     ∙ ap (λ (f : Series). cut k w ⊞ f) (below-cut-eq k _ (below-check-symbols n k w))
 
+pub residue-cong : (n k : ℕ) (f g : Series) → k ≤ n → ((i : ℕ) → i < n → f i ≡ g i) → residue n k f ≡ residue n k g
+unfolding residue check-symbols
+residue-cong n k f g room same =
+    ap₂ _⊞_ (cut-cong k f g (λ i h. same i (omega arith)))
+    (ap (interpolate k root) (fun-ext (syndrome-cong n (upper k f) (upper k g) (λ i h. above i h (decLt i k)))))
+  where
+    above : (i : ℕ) → i < n → Dec (i < k) → upper k f i ≡ upper k g i
+    above i h (yes l) = upper-low k f i l ∙ sym (upper-low k g i l)
+    above i h (no l) = upper-high k f i (omega arith) ∙ same i h ∙ sym (upper-high k g i (omega arith))
+
 module _ (n k : ℕ) (w : Series) (small : k < 255) (room : k ≤ n) where
   -- the word is its residue and a word of the code
   word-is : (i : ℕ) → w i ≡ (residue n k w ⊞ systematic n k w) i
@@ -67,9 +79,19 @@ module _ (n k : ℕ) (w : Series) (small : k < 255) (room : k ≤ n) where
       ∙ ⊕-zero _)
 
   -- of a clean word
+  pub residue-none : ((i : ℕ) → i < k → residue n k w i ≡ 𝟎) → (j : ℕ) → j < k → syndrome n w j ≡ 𝟎
+  residue-none z j h = sym (residue-syndrome j h) ∙ value-zero k _ (root j) z
+
   pub residue-clean : residue n k w ≡ O → O ≡ cut k (syndrome n w)
   residue-clean z =
-      sym (cut-unique k (syndrome n w) O (λ j h. sym (residue-syndrome j h) ∙ rw z (value-zero k O (root j) (λ i _. O-at i)) ∙ sym (O-at j)) (λ j _. O-at j))
+      sym (cut-unique k (syndrome n w) O (λ j h. residue-none (λ i _. ap (λ (f : Series). f i) z ∙ O-at i) j h ∙ sym (O-at j)) (λ j _. O-at j))
+
+  -- k distinct roots: a polynomial below k with none of their values is zero
+  pub residue-zero : ((j : ℕ) → j < k → syndrome n w j ≡ 𝟎) → (i : ℕ) → i < k → residue n k w i ≡ 𝟎
+  residue-zero z i h =
+      interpolate-unique k (residue n k w) O root (roots-distinct k small)
+      (λ j l. residue-syndrome j l ∙ z j l ∙ sym (value-zero k O (root j) (λ i _. O-at i))) i h
+      ∙ O-at i
 
   -- from the array that holds it
   pub residue-syndromes : (r : List ℕ) → k ≤ length r → bytes r ≡ residue n k w

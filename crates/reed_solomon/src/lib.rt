@@ -15,6 +15,7 @@ ghost use Rattle.reed_solomon.specs.Definition.{root as Root, syndrome a
 ghost use Rattle.reed_solomon.specs.Generator.{aligned};
 ghost use Rattle.reed_solomon.specs.Coefficients.{Zech};
 ghost use Rattle.reed_solomon.specs.Encoder.{Table};
+ghost use Rattle.reed_solomon.specs.Made.{Made};
 ghost use Rattle.reed_solomon.specs.Residue.{residue as Residue};
 use division::Packed;
 use field::Exponent;
@@ -183,4 +184,15 @@ pub fn syndromes(t: &[u64], k: usize, word: &[u8]) -> [Gf; SYNDROMES]
         return [Gf::ZERO; SYNDROMES];
     }
     values(&r[..k], k)
+}
+
+// The table for k check symbols, made anew unless it was made for them; made for 0 is room that holds none yet.
+pub fn prepare(t: &mut [u64], made: usize, k: usize)
+    requires { ⌜ Made made (now t) × (1 ≤ k) × (k ≤ 48) ⌝ }
+    ensures { λ _. ⌜ Table k (now (t .exit)) ⌝ }
+{
+    if made == k {
+        return;
+    }
+    table(k, t);
 }

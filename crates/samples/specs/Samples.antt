@@ -106,7 +106,7 @@ holding (written b d s) t =
     let (t2, t3) = and-both (eqb (length d) (data-size (read b))) _ t1 in
     let (t4, t5) = and-both (eqb (length s) (block-size (read b))) _ t3 in
     let (e, valid) = accepted-is b t0 in
-    (e, eqb→eq _ _ t2, encoding-bytes (read b) valid d s (eqb→eq _ _ t4) (encodes-is (read b) (bytes d) (bytes s) t5))
+    (e, eqb→eq _ _ t2, encoding-bytes (read b) valid d s (eqb→eq _ _ t4) (encodes-is (read b) valid (bytes d) (bytes s) t5))
 holding (plain-run S Λ B γ k) t =
     let m = measure (J S) (n S) in
     let (t0, t1) = and-both (same (suc (n S)) (m .Λ) Λ) _ t in

@@ -88,7 +88,7 @@ accepted-is b t =
 -- ---- blocks
 
 unfoldable pub codeword : Profile → Series → Bool
-codeword p s = all (p .nested + p .subwords) (λ w. all (checks p w) (λ j. equal (syndrome (p .length) (sums p s w) j) 𝟎))
+codeword p s = all (p .subwords) (λ w. all (checks p w) (λ j. equal (syndrome (p .length) (sums p s w) j) 𝟎))
 
 unfoldable pub carries : Profile → Series → Series → Bool
 carries p d s = all (p .subwords) (λ i. all (room p i) (λ q. equal (subword (p .length) s i (checks p i + q)) (d (data-start p i + q))))
@@ -96,11 +96,11 @@ carries p d s = all (p .subwords) (λ i. all (room p i) (λ q. equal (subword (p
 unfoldable pub encodes : Profile → Series → Series → Bool
 encodes p d s = codeword p s && carries p d s
 
-pub encodes-is : (p : Profile) (d s : Series) → T (encodes p d s) → Encodes p d s
+pub encodes-is : (p : Profile) → Valid p → (d s : Series) → T (encodes p d s) → Encodes p d s
 unfolding encodes codeword carries
-encodes-is p d s t =
+encodes-is p ok d s t =
     let (t0, t1) = and-both (codeword p s) _ t in
     record {
-      code = sums-codeword p s (λ w h j q. equal-is _ _ (all-at (checks p w) _ (all-at (p .nested + p .subwords) _ t0 w h) j q));
+      code = sums-codeword p s ok (λ w h j q. equal-is _ _ (all-at (checks p w) _ (all-at (p .subwords) _ t0 w h) j q));
       carries = λ i h q l. equal-is _ _ (all-at (room p i) _ (all-at (p .subwords) _ t1 i h) q l);
     }

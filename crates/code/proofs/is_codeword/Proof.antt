@@ -1,56 +1,45 @@
--- All sums before w vanish, and so do the first j syndromes of sum w.
+-- All words before w vanish, and the first j symbols of the remainder of word w are zero.
 use Prim.Native.Nat.{ℕ, _-_, _≤_, _<_}
-use mathlib.Core.Path.{_≡_, refl, sym, _∙_}
+use mathlib.Core.Path.{_≡_, refl, _∙_}
 use mathlib.Core.Bool.{true}
 use native.Mathlib.Omega.{arith}
-use lib.ListN.{length}
-use lib.Seq.{length-take-le}
+use lib.ListN.{getD}
 use borrow.Author.Count.{below-none, below-more}
-use Rattle.field.specs.Field.{𝟎, isZero-true, isZero-false}
-use Rattle.series.specs.Shift.{cut}
 use Rattle.series.specs.Array.{bytes}
-use Rattle.profile.specs.Definition.{checks}
-use Rattle.profile.specs.Laws.{unless, meets}
-use Rattle.profile.specs.Valid.{checks-most}
-use Rattle.reed_solomon.specs.Definition.{syndrome}
-use Rattle.code.specs.Check.{sums, Vanish, check-passes, check-fails, prefix-syndrome}
-use borrow.Author.Needs.{needs}
+use Rattle.profile.specs.Valid.{checks-some, checks-most, checks-room}
+use Rattle.reed_solomon.specs.Made.{Made}
+use Rattle.code.specs.Check.{Vanish, zeros-vanish, check-passes, check-fails}
+use mir.Syntax.{w8}
+use borrow.Author.Needs.{needs, elem-fits}
 use Rattle.code.proofs.is_codeword.Statement.{statement}
 use Rattle.code.proofs.is_codeword.Tie as tie
 
 abbrev Inv-loop : tie.InvT-loop
-Inv-loop p block n words clean₀ w k word j₀ clean j =
-    (w < words) × (j ≤ k) × (clean ≡ true) × (k ≡ checks p w) × (length word ≡ 255) × (bytes word ≡ cut n (sums p (bytes block) w))
-    × ((a : ℕ) → a < w → Vanish p (bytes block) a) × ((b : ℕ) → b < j → syndrome n (sums p (bytes block) w) b ≡ 𝟎)
+Inv-loop p block m t made clean₀ w k r j₀ clean j = (j ≤ k) × (clean ≡ true) × ((i : ℕ) → i < j → getD r i 0 ≡ 0)
 
 abbrev μ-loop : tie.MeasureT-loop
-μ-loop p block n words clean₀ w k word j₀ clean j = k - j
+μ-loop p block m t made clean₀ w k r j₀ clean j = k - j
 
 abbrev Inv-words : tie.InvT-words
-Inv-words p block n words clean₀ w₀ clean w = (w ≤ words) × (clean ≡ true) × ((a : ℕ) → a < w → Vanish p (bytes block) a)
+Inv-words p block m t₀ made₀ clean₀ w₀ t made clean w =
+    (w ≤ m) × (clean ≡ true) × Made made t × ((a : ℕ) → a < w → Vanish p (bytes block) a)
 
 abbrev μ-words : tie.MeasureT-words
-μ-words p block n words clean₀ w₀ clean w = words - w
+μ-words p block m t₀ made₀ clean₀ w₀ t made clean w = m - w
 
-cast-n : tie.Need-cast-n Inv-loop μ-loop Inv-words μ-words
-cast-n c = search needs
+cast-m : tie.Need-cast-m Inv-loop μ-loop Inv-words μ-words
+cast-m c = search needs
 
-cast-words : tie.Need-cast-words Inv-loop μ-loop Inv-words μ-words
-cast-words c = search needs
-
-cast-words-2 : tie.Need-cast-words-2 Inv-loop μ-loop Inv-words μ-words
-cast-words-2 c = search needs
-
-add-words : tie.Need-add-words Inv-loop μ-loop Inv-words μ-words
-add-words c = search needs
+room-requires : tie.Need-room-requires Inv-loop μ-loop Inv-words μ-words
+room-requires c κs = search needs
 
 words-holds : tie.Need-words-holds Inv-loop μ-loop Inv-words μ-words
-words-holds c = (search needs, refl, below-none _)
+words-holds c = (search needs, refl, record { size = search needs; table = λ h. absurd (omega arith) }, below-none _)
 
 cast-checks : tie.Need-cast-checks Inv-loop μ-loop Inv-words μ-words
 cast-checks c =
-    let given = c .before .before .before .before .before .before in
-    record { fits = omega (arith, given .pre .valid .subwords, given .pre .valid .nested, c .words-test .taken) }
+    let given = c .before .before .before .before .before in
+    record { fits = omega (arith, given .pre .valid .subwords, c .words-test .taken) }
 
 checks-requires : tie.Need-checks-requires Inv-loop μ-loop Inv-words μ-words
 checks-requires c κs = search needs
@@ -58,32 +47,45 @@ checks-requires c κs = search needs
 cast-k : tie.Need-cast-k Inv-loop μ-loop Inv-words μ-words
 cast-k c = search needs
 
-word-of-requires : tie.Need-word-of-requires Inv-loop μ-loop Inv-words μ-words
-word-of-requires c κs = (c .before .before .before .before .before .before .before .pre, c .before .words-test .taken)
+slice-aggregate-prepare : tie.Need-slice-aggregate-prepare Inv-loop μ-loop Inv-words μ-words
+slice-aggregate-prepare c = search needs
+
+prepare-requires : tie.Need-prepare-requires Inv-loop μ-loop Inv-words μ-words
+prepare-requires c κs =
+    let given = c .before .before .before .before .before .before .before in
+    let now = c .before .before .before .words in
+    let p = given .args .p in
+    let ok = given .pre .valid in
+    let k = c .before .checks .ensures in
+    (now .inv .2, omega (arith, checks-some p ok (now .w), k), omega (arith, checks-most p ok (now .w), k))
+
+slice-aggregate-residue-of : tie.Need-slice-aggregate-residue-of Inv-loop μ-loop Inv-words μ-words
+slice-aggregate-residue-of c = search needs
+
+residue-of-requires : tie.Need-residue-of-requires Inv-loop μ-loop Inv-words μ-words
+residue-of-requires c κs =
+    let given = c .before .before .before .before .before .before .before .before .before .before in
+    let w = c .before .before .before .before .before .before .words .w in
+    let p = given .args .p in
+    let ok = given .pre .valid in
+    let k = c .before .before .before .before .checks .ensures in (
+      given .pre,
+      c .before .before .prepare .ensures,
+      omega (arith, checks-most p ok w, k),
+      omega (arith, checks-room p ok w, k),
+      c .before .before .before .before .before .words-test .taken,
+    )
 
 loop-holds : tie.Need-loop-holds Inv-loop μ-loop Inv-words μ-words
-loop-holds c =
-    let now = c .before .before .before .words in
-    (c .before .before .words-test .taken, search needs, now .inv .1, c .before .checks .ensures, search needs, c .word-of .ensures, now .inv .2, below-none _)
+loop-holds c = (search needs, c .before .before .before .before .before .before .before .words .inv .1, below-none _)
 
-array-share-prefix-word : tie.Need-array-share-prefix-word Inv-loop μ-loop Inv-words μ-words
-array-share-prefix-word c =
-    let given = c .before .before .before .before .before .before .before .before .before .before in
-    omega (arith, given .pre .valid .length, c .before .loop .inv .4)
-
-slice-aggregate-syndrome : tie.Need-slice-aggregate-syndrome Inv-loop μ-loop Inv-words μ-words
-slice-aggregate-syndrome c =
-    let given = c .before .before .before .before .before .before .before .before .before .before .before in
-    sym (length-take-le (given .args .p .length) _ (omega (arith, given .pre .valid .length, c .before .before .loop .inv .4)))
-
-syndrome-requires : tie.Need-syndrome-requires Inv-loop μ-loop Inv-words μ-words
-syndrome-requires c κs =
-    let given = c .before .before .before .before .before .before .before .before .before .before .before in
-    let now = c .before .before .loop in
-    omega (arith, checks-most (given .args .p) (given .pre .valid) (c .before .before .before .before .before .before .words .w), now .inv .3, c .before .loop-test .taken)
-
-is-zero-requires : tie.Need-is-zero-requires Inv-loop μ-loop Inv-words μ-words
-is-zero-requires c κs = search needs
+array-read-if1 : tie.Need-array-read-if1 Inv-loop μ-loop Inv-words μ-words
+array-read-if1 c =
+    let given = c .before .before .before .before .before .before .before .before .before .before .before .before .before in
+    let k = c .before .before .before .before .before .before .before .checks .ensures in
+    let w = c .before .before .before .before .before .before .before .before .before .words .w in
+    let most = checks-most (given .args .p) (given .pre .valid) w in
+    search (needs, k, most)
 
 add-j : tie.Need-add-j Inv-loop μ-loop Inv-words μ-words
 add-j c = search needs
@@ -93,19 +95,8 @@ loop-less c = search needs
 
 loop-again : tie.Need-loop-again Inv-loop μ-loop Inv-words μ-words
 loop-again c =
-    let given = c .before .before .before .before .before .before .before .before .before .before .before .before .before .before in
-    let now = c .before .before .before .before .before .loop in
-    let same = prefix-syndrome (given .args .p .length) _ _ (now .j) (omega (arith, given .pre .valid .length, now .inv .4)) (now .inv .5) in
-    let zero = isZero-true _ (sym (c .before .is-zero .ensures) ∙ meets _ (c .if1 .left)) in (
-      now .inv .0,
-      omega (arith, c .before .before .before .before .loop-test .taken),
-      now .inv .2,
-      now .inv .3,
-      now .inv .4,
-      now .inv .5,
-      now .inv .6,
-      below-more _ _ (now .inv .7) (sym same ∙ sym (c .before .before .syndrome .ensures) ∙ zero),
-    )
+    let now = c .before .before .loop in
+    (omega (arith, c .before .loop-test .taken), now .inv .1, below-more _ (now .j) (now .inv .2) (c .if1 .left))
 
 add-w : tie.Need-add-w Inv-loop μ-loop Inv-words μ-words
 add-w c = search needs
@@ -116,26 +107,33 @@ words-less c = search needs
 words-again : tie.Need-words-again Inv-loop μ-loop Inv-words μ-words
 words-again c =
     let end = c .before .loop in
-    let given = c .before .before .before .before .before .before .before .before .before .before in
-    let w = c .before .before .before .before .before .words .w in (
-      omega (arith, end .inv .0),
-      end .inv .2,
-      below-more (Vanish (given .args .p) (bytes (given .args .block .now))) w (end .inv .6) (λ b l. end .inv .7 b (omega (arith, l, end .inv .3, c .loop-test .left))),
+    let residue = c .before .before .residue-of in
+    let checks = c .before .before .before .before .before .before .before .checks .ensures in
+    let now = c .before .before .before .before .before .before .before .before .before .words in
+    let given = c .before .before .before .before .before .before .before .before .before .before .before .before .before in
+    let p = given .args .p in
+    let s = bytes (given .args .block .now) in
+    let here = zeros-vanish p s (given .pre .valid) (now .w) _ (residue .result) checks (residue .ensures) (λ i h. end .inv .2 i (omega (arith, c .loop-test .left))) in (
+      omega (arith, c .before .before .before .before .before .before .before .before .words-test .taken),
+      end .inv .1,
+      record { size = search needs; table = λ _. c .before .before .before .before .before .prepare .ensures },
+      below-more (Vanish p s) (now .w) (now .inv .3) here,
     )
 
 returns : tie.Need-returns Inv-loop μ-loop Inv-words μ-words
 returns c =
     let end = c .before .words in
-    end .inv .1 ∙ check-passes _ _ (λ w l. end .inv .2 w (omega (arith, c .words-test .left)))
+    let given = c .before .before .before .before .before in
+    end .inv .1 ∙ check-passes _ _ (given .pre .valid) (λ w l. end .inv .3 w (omega (arith, c .words-test .left)))
 
 returns-2 : tie.Need-returns-2 Inv-loop μ-loop Inv-words μ-words
 returns-2 c =
+    let residue = c .before .before .before .residue-of in
+    let checks = c .before .before .before .before .before .before .before .before .checks .ensures in
     let given = c .before .before .before .before .before .before .before .before .before .before .before .before .before .before in
-    let now = c .before .before .before .before .before .loop in
-    let same = prefix-syndrome (given .args .p .length) _ _ (now .j) (omega (arith, given .pre .valid .length, now .inv .4)) (now .inv .5) in
-    let nonzero = isZero-false _ (sym (c .before .is-zero .ensures) ∙ unless _ (c .if1 .taken)) in
-    check-fails _ _ _ (now .j) (now .inv .0) (omega (arith, now .inv .3, c .before .before .before .before .loop-test .taken))
-    (λ e. nonzero (c .before .before .syndrome .ensures ∙ same ∙ e))
+    let byte = elem-fits w8 w8 (residue .result) _ (c .before .before .loop .j) (residue .ok .1 .1) tt in
+    check-fails (given .args .p) _ (given .pre .valid) _ _ (residue .result) checks (residue .ensures) (c .before .before .loop .j)
+    (c .before .before .before .before .before .before .before .before .before .words-test .taken) (c .before .loop-test .taken) (c .if1 .taken) (omega (arith, byte))
 
 pub is-codeword-spec : {M : Type 1} → statement M
 is-codeword-spec =
@@ -145,20 +143,18 @@ is-codeword-spec =
     μ-loop
     Inv-words
     μ-words
-    cast-n
-    cast-words
-    cast-words-2
-    add-words
+    cast-m
+    room-requires
     words-holds
     cast-checks
     checks-requires
     cast-k
-    word-of-requires
+    slice-aggregate-prepare
+    prepare-requires
+    slice-aggregate-residue-of
+    residue-of-requires
     loop-holds
-    array-share-prefix-word
-    slice-aggregate-syndrome
-    syndrome-requires
-    is-zero-requires
+    array-read-if1
     add-j
     loop-less
     loop-again

@@ -7,7 +7,8 @@ use lib.ListN.{length}
 use lib.Seq.{length-take-le}
 use Rattle.profile.specs.Valid.{checks-most, checks-room}
 use Rattle.code.specs.Check.{inside, part-length}
-use Rattle.encoder.specs.Write.{wrote-is, table-for}
+use Rattle.reed_solomon.specs.Made.{table-for}
+use Rattle.encoder.specs.Write.{wrote-is}
 use borrow.Author.Needs.{needs}
 use Rattle.encoder.proofs.write_subword.Statement.{statement}
 use Rattle.encoder.proofs.write_subword.Tie as tie

@@ -1,9 +1,9 @@
 -- The table that is there, or a new one.
 use native.Mathlib.Omega.{arith}
-use Rattle.encoder.specs.Write.{table-for}
+use Rattle.reed_solomon.specs.Made.{table-for}
 use borrow.Author.Needs.{needs}
-use Rattle.encoder.proofs.prepare.Statement.{statement}
-use Rattle.encoder.proofs.prepare.Tie as tie
+use Rattle.reed_solomon.proofs.prepare.Statement.{statement}
+use Rattle.reed_solomon.proofs.prepare.Tie as tie
 
 returns : tie.Need-returns
 returns c =
