@@ -152,8 +152,8 @@ fn decode_copy(p: Profile, form: Form, input: &[u8], block: &mut [u8], out: &mut
     conclude(p, form, e, block, out)
 }
 
-// Makes room for the copy.
-fn read(p: Profile, form: Form, input: &[u8], out: &mut [u8]) -> Reading
+// Reads a block of an accepted profile. It makes room for the copy.
+pub fn read(p: Profile, form: Form, input: &[u8], out: &mut [u8]) -> Reading
     requires { ⌜ Fits p (now input) × (length (now out) ≡ length (now input)) ⌝ }
     ensures { λ r. ⌜ Gives form (concluded p (Decode p (bytes (now (input .entry))))) (now (out .entry)) (now (out .exit)) r ⌝ }
 {
