@@ -160,8 +160,8 @@ fn decode_copy(p: Profile, form: Form, input: &[u8], block: &mut [u8], out: &mut
     conclude(p, form, e, block, out)
 }
 
-// A codeword goes out as it came, and no stage is entered. For any other block room for a copy is made.
-fn read(p: Profile, form: Form, input: &[u8], out: &mut [u8]) -> Reading
+// Reads a block of an accepted profile. A codeword goes out as it came, and no stage is entered; for any other block room for a copy is made.
+pub fn read(p: Profile, form: Form, input: &[u8], out: &mut [u8]) -> Reading
     requires { ⌜ Fits p (now input) × (length (now out) ≡ length (now input)) ⌝ }
     ensures { λ r. ⌜ Gives form (concluded p (Decode p (bytes (now (input .entry))))) (now (out .entry)) (now (out .exit)) r ⌝ }
 {

@@ -1,0 +1,44 @@
+-- Accepted, or refused.
+use Rattle.card.specs.Laws.{says-as, told-as}
+use borrow.Author.Needs.{needs}
+use Rattle.card.proofs.block_line.Statement.{statement}
+use Rattle.card.proofs.block_line.Tie as tie
+
+enum-told : tie.Need-enum-told
+enum-told c = search needs
+
+ok-requires : tie.Need-ok-requires
+ok-requires c κs = search needs
+
+enum-known-a : tie.Need-enum-known-a
+enum-known-a c = search needs
+
+number-requires : tie.Need-number-requires
+number-requires c κs = search needs
+
+refused-requires : tie.Need-refused-requires
+refused-requires c κs = search needs
+
+returns : tie.Need-returns
+returns c =
+    let given = c .before .before .before .before in
+    says-as (c .ok .ensures) (told-as (given .args .i) (given .args .a) _ (given .args .last) (given .args .changed) (c .before .before .enum-told .given .1))
+
+returns-2 : tie.Need-returns-2
+returns-2 c =
+    let given = c .before .before .before .before .before .before in
+    says-as
+    (rw (c .before .before .number .ensures) at (c .refused .ensures))
+    (told-as (given .args .i) (given .args .a) _ (given .args .last) (given .args .changed) (c .before .before .before .before .a .given .1))
+
+pub block-line-spec : {M : Type 1} → statement M
+block-line-spec =
+    tie.close
+    (tie.spec
+    enum-told
+    ok-requires
+    enum-known-a
+    number-requires
+    refused-requires
+    returns
+    returns-2)

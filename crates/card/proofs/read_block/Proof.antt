@@ -1,0 +1,27 @@
+-- What is answered and reported is what reading the block comes to.
+use Rattle.series.specs.Array.{bytes}
+use Rattle.staged.specs.Definition.{decode}
+use Rattle.decoder.specs.Definition.{concluded}
+use Rattle.card.specs.Laws.{says-as, told-line}
+use borrow.Author.Needs.{needs}
+use Rattle.card.proofs.read_block.Statement.{statement}
+use Rattle.card.proofs.read_block.Tie as tie
+
+read-requires : tie.Need-read-requires
+read-requires c κs = search needs
+
+block-line-requires : tie.Need-block-line-requires
+block-line-requires c κs = search needs
+
+same-length : tie.Need-same-length
+same-length c = search needs
+
+returns : tie.Need-returns
+returns c =
+    let given = c .before .before .before .before .before .before .before .before .before in
+    let gives = c .before .before .before .before .before .read .ensures in
+    let result = concluded (given .args .p) (decode (given .args .p) (bytes (given .args .block .now))) in
+    says-as (c .block-line .ensures) (told-line (given .args .i) result _ _ _ (gives .answer) (gives .report .last) (gives .report .changed))
+
+pub read-block-spec : {M : Type 1} → statement M
+read-block-spec = tie.close (tie.spec read-requires block-line-requires same-length returns)

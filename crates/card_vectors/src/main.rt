@@ -1,0 +1,96 @@
+// Prints the lists of cards, after a line `card of SIZE` for each. `stdout` holds the same lists from an independent model: stored cards, and the sample card of
+// document 01 cut at every byte and followed by one byte too many. tools/make_card_vectors.py made both files.
+//
+// Standard input is the number of cards and the cards, each after its size. These numbers have two bytes, the high byte first.
+ghost use Prim.Native.Nat.{_+_, _≤_, _<_};
+ghost use mathlib.Core.Path.{_≡_};
+ghost use mathlib.Core.Bool.{false};
+ghost use lib.ListN.{length};
+ghost use Rattle.io.specs.Counts.{Counts};
+ghost use Rattle.card.specs.Turn.{wanted, Good, over, left};
+use card::Section;
+use listing::LINE;
+
+fn wide(x: u8) -> usize
+    ensures { λ r. ⌜ r < 256 ⌝ }
+{
+    x as usize
+}
+
+// A number of two bytes.
+fn number() -> usize
+    ensures { λ r. ⌜ r < 65536 ⌝ }
+{
+    let mut space = [0u8; 2];
+    io::read_full(0, &mut space);
+    256 * wide(space[0]) + wide(space[1])
+}
+
+// The next n bytes.
+fn bytes(n: usize) -> [u8; 65536]
+    requires { ⌜ n ≤ 65536 ⌝ }
+    ensures { λ r. ⌜ Counts n r ⌝ }
+{
+    let mut space = io::large_buffer();
+    io::read_full(0, &mut space[..n]);
+    space
+}
+
+fn blank() -> [u8; LINE] {
+    [0u8; LINE]
+}
+
+// Where a section of n bytes ends that begins at `at`.
+fn end(at: usize, n: usize, size: usize) -> usize
+    requires { ⌜ at ≤ size ⌝ }
+    ensures from { λ e. ⌜ at ≤ e ⌝ }
+    ensures within { λ e. ⌜ e ≤ size ⌝ }
+    ensures short { λ e. ⌜ e ≤ at + n ⌝ }
+{
+    if size - at < n {
+        return size;
+    }
+    at + n
+}
+
+// Prints the line of a section, and tells what comes next.
+fn turn(s: Section, section: &[u8]) -> Section
+    requires { ⌜ Good s × (length (now section) ≤ wanted s) ⌝ }
+    ensures good { λ r. ⌜ Good r ⌝ }
+    ensures falls { λ r. ⌜ (over s ≡ false → left r < left s) ⌝ }
+{
+    let mut line = blank();
+    let t = card::judge(s, section, &mut line);
+    io::write_all(1, &line[..t.size]);
+    let next = t.next;
+    next
+}
+
+fn list(card: &[u8]) {
+    let mut s = Section::Size;
+    let mut at: usize = 0;
+    while !card::is_over(s) {
+        let e = end(at, card::wanted(s), card.len());
+        let next = turn(s, &card[at..e]);
+        s = next;
+        at = e;
+    }
+}
+
+fn one() {
+    let n = number();
+    let space = bytes(n);
+    io::write_all(1, b"card of ");
+    io::print_decimal(1, n as u64);
+    io::write_all(1, b"\n");
+    list(&space[..n]);
+}
+
+fn main() {
+    let count = number();
+    let mut i: usize = 0;
+    while i < count {
+        one();
+        i = i + 1;
+    }
+}

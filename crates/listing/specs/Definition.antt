@@ -1,0 +1,54 @@
+-- The lines of the printed list: document 01, "The card and its printed list". A text is the list of its bytes, in ASCII.
+--
+--   ascii s                the bytes of s
+--   decimal n              n in decimal digits, the first of which is zero only if n is
+--   blocks-line n          the line that tells how many blocks a card has
+--   ok-line i r c          block i was read, r being the last stage and c the number of changed symbols
+--   refused-line i q       block i was refused by the number q
+--   card-line q            the card was refused by the number q
+--   Says x n l             the array l begins with n bytes that are the text x
+use Prim.Native.Nat.{ℕ, zero, suc, _+_, _/_, _%_, _≤_}
+use Prim.Native.Char.{code}
+use Prim.Native.String.{String, [] as none, _∷_ as _and_}
+use mathlib.Core.Path.{_≡_}
+use mathlib.Core.Bool.{cond}
+use mathlib.Core.List.{List, [], _∷_, _++_}
+use lib.Dec.{ltb}
+use lib.ListN.{length, take}
+
+abbrev pub ascii : String → List ℕ
+ascii none = []
+ascii (c and s) = code c ∷ ascii s
+
+-- the ASCII code of a digit
+abbrev pub glyph : ℕ → ℕ
+glyph d = 48 + d
+
+-- the digits of a number below 10^(k+1)
+abbrev pub digits : ℕ → ℕ → List ℕ
+digits zero n = glyph n ∷ []
+digits (suc k) n = cond (ltb n 10) (glyph n ∷ []) (digits k (n / 10) ++ (glyph (n % 10) ∷ []))
+
+-- n is below 10^(n+1)
+abbrev pub decimal : ℕ → List ℕ
+decimal n = digits n n
+
+-- "The program prints `blocks N`"
+abbrev pub blocks-line : ℕ → List ℕ
+blocks-line n = ascii "blocks " ++ decimal n ++ ascii "\n"
+
+-- "then for each whole block its number and `ok`, last stage, changed bytes"
+abbrev pub ok-line : ℕ → ℕ → ℕ → List ℕ
+ok-line i r c = decimal i ++ ascii " ok " ++ decimal r ++ ascii " " ++ decimal c ++ ascii "\n"
+
+-- "or `refused` and the refusal number (no stage)"
+abbrev pub refused-line : ℕ → ℕ → List ℕ
+refused-line i q = decimal i ++ ascii " refused " ++ decimal q ++ ascii "\n"
+
+-- "A refused profile or card prints `card refused` and the number."
+abbrev pub card-line : ℕ → List ℕ
+card-line q = ascii "card refused " ++ decimal q ++ ascii "\n"
+
+pub record Says (x : List ℕ) (n : ℕ) (l : List ℕ) : Type 0 where
+  pub size : n ≤ length l
+  pub says : take n l ≡ x

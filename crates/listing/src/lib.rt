@@ -1,0 +1,88 @@
+// The lines of the printed list, each written into the first bytes of an array that is lent. What the promises speak of stands in specs/Definition.antt.
+ghost use Prim.Native.Nat.{_+_, _≤_, _<_};
+ghost use mathlib.Core.List.{[], _∷_};
+ghost use lib.ListN.{length};
+ghost use Rattle.listing.specs.Definition.{glyph, decimal, blocks-line, ok-line, refused-line, card-line, Says};
+ghost use Rattle.listing.specs.Laws.{Put};
+
+// Room for a line, the longest of which has 21 bytes.
+pub const LINE: usize = 32;
+
+// Writes a text from `at` on, and answers where it ends.
+fn put(line: &mut [u8], at: usize, text: &[u8]) -> usize
+    requires { ⌜ at + length (now text) ≤ length (now line) ⌝ }
+    ensures { λ r. ⌜ Put at (now (text .entry)) (now (line .entry)) r (now (line .exit)) ⌝ }
+{
+    let mut i: usize = 0;
+    while i < text.len() {
+        line[at + i] = text[i];
+        i += 1;
+    }
+    at + text.len()
+}
+
+// Writes a digit.
+fn digit(line: &mut [u8], at: usize, d: u8) -> usize
+    requires { ⌜ (at < length (now line)) × (d < 10) ⌝ }
+    ensures { λ r. ⌜ Put at (glyph d ∷ []) (now (line .entry)) r (now (line .exit)) ⌝ }
+{
+    line[at] = 48 + d;
+    at + 1
+}
+
+// Writes the digits of a number: what stands before the last one is a number too.
+fn digits(line: &mut [u8], at: usize, n: u16) -> usize
+    requires { ⌜ at + length (decimal n) ≤ length (now line) ⌝ }
+    ensures { λ r. ⌜ Put at (decimal n) (now (line .entry)) r (now (line .exit)) ⌝ }
+{
+    if n < 10 {
+        return digit(line, at, n as u8);
+    }
+    let end = digits(line, at, n / 10);
+    digit(line, end, (n % 10) as u8)
+}
+
+// Writes a number, which has at most five digits.
+fn number(line: &mut [u8], at: usize, n: u16) -> usize
+    requires { ⌜ at + 5 ≤ length (now line) ⌝ }
+    ensures text { λ r. ⌜ Put at (decimal n) (now (line .entry)) r (now (line .exit)) ⌝ }
+    ensures short { λ r. ⌜ r ≤ at + 5 ⌝ }
+{
+    digits(line, at, n)
+}
+
+pub fn blocks(n: u16, line: &mut [u8; LINE]) -> usize
+    ensures { λ r. ⌜ Says (blocks-line n) r (now (line .exit)) ⌝ }
+{
+    let a = put(line, 0, b"blocks ");
+    let b = number(line, a, n);
+    put(line, b, b"\n")
+}
+
+pub fn ok(index: u16, last: u8, changed: u16, line: &mut [u8; LINE]) -> usize
+    ensures { λ r. ⌜ Says (ok-line index last changed) r (now (line .exit)) ⌝ }
+{
+    let a = number(line, 0, index);
+    let b = put(line, a, b" ok ");
+    let c = number(line, b, last as u16);
+    let d = put(line, c, b" ");
+    let e = number(line, d, changed);
+    put(line, e, b"\n")
+}
+
+pub fn refused(index: u16, q: u8, line: &mut [u8; LINE]) -> usize
+    ensures { λ r. ⌜ Says (refused-line index q) r (now (line .exit)) ⌝ }
+{
+    let a = number(line, 0, index);
+    let b = put(line, a, b" refused ");
+    let c = number(line, b, q as u16);
+    put(line, c, b"\n")
+}
+
+pub fn card(q: u8, line: &mut [u8; LINE]) -> usize
+    ensures { λ r. ⌜ Says (card-line q) r (now (line .exit)) ⌝ }
+{
+    let a = put(line, 0, b"card refused ");
+    let b = number(line, a, q as u16);
+    put(line, b, b"\n")
+}

@@ -1,0 +1,69 @@
+-- A section that can come is next, and every turn takes one away.
+use mathlib.Core.Path.{_≡_, sym, _∙_}
+use native.Mathlib.Omega.{arith}
+use lib.ListN.{length}
+use lib.Seq.{length-take-le, length-front}
+use Rattle.profile.specs.Laws.{unless}
+use Rattle.card.specs.Turn.{Good, left}
+use borrow.Author.Needs.{needs}
+use Rattle.read_card.proofs.main.Statement.{statement}
+use Rattle.read_card.proofs.main.Tie as tie
+
+abbrev Inv-loop : tie.InvT-loop
+Inv-loop section₀ s₀ section s = Good s × (length section ≡ 2040)
+
+abbrev μ-loop : tie.MeasureT-loop
+μ-loop section₀ s₀ section s = left s
+
+room-requires : tie.Need-room-requires Inv-loop μ-loop
+room-requires c κs = search needs
+
+loop-holds : tie.Need-loop-holds Inv-loop μ-loop
+loop-holds c = search needs
+
+is-over-requires : tie.Need-is-over-requires Inv-loop μ-loop
+is-over-requires c κs = search needs
+
+wanted-requires : tie.Need-wanted-requires Inv-loop μ-loop
+wanted-requires c κs = search needs
+
+array-borrow-prefix-section : tie.Need-array-borrow-prefix-section Inv-loop μ-loop
+array-borrow-prefix-section c = search needs
+
+slice-aggregate-turn : tie.Need-slice-aggregate-turn Inv-loop μ-loop
+slice-aggregate-turn c = sym (length-take-le _ _ (omega (arith, c .before .wanted .ensures .1, c .before .before .before .before .loop .inv .1)))
+
+turn-requires : tie.Need-turn-requires Inv-loop μ-loop
+turn-requires c κs =
+    let now = c .before .before .before .before .loop in
+    let wanted = c .before .wanted .ensures in
+    (now .inv .0, omega (arith, wanted .0, length-take-le (c .before .wanted .result) (now .section) (omega (arith, wanted .1, now .inv .1))))
+
+loop-less : tie.Need-loop-less Inv-loop μ-loop
+loop-less c = c .before .turn .ensures .1 (sym (c .before .before .before .before .before .is-over .ensures) ∙ unless _ (c .before .before .before .before .if1 .taken))
+
+loop-again : tie.Need-loop-again Inv-loop μ-loop
+loop-again c =
+    let now = c .before .before .before .before .before .before .loop in
+    let wanted = c .before .before .before .wanted in
+    (c .before .turn .ensures .0, length-front (now .section) (c .before .turn .last .1 .0) (wanted .result) (c .before .turn .kept .1 .0) ∙ now .inv .1)
+
+returns : tie.Need-returns Inv-loop μ-loop
+returns c = search needs
+
+pub main-spec : {M : Type 1} → statement M
+main-spec =
+    tie.close
+    (tie.spec
+    Inv-loop
+    μ-loop
+    room-requires
+    loop-holds
+    is-over-requires
+    wanted-requires
+    array-borrow-prefix-section
+    slice-aggregate-turn
+    turn-requires
+    loop-less
+    loop-again
+    returns)
