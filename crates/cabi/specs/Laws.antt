@@ -29,8 +29,9 @@ use Rattle.fetch.specs.Definition.{fetching, part, empty, refuses}
 use Rattle.solver.specs.declared.Form.{Form}
 use Rattle.solver.specs.declared.Form.the-variants.{Plain}
 use Rattle.staged.specs.Definition.{Line}
-use Rattle.stages.specs.declared.Line as stages
-use Rattle.stages.specs.View.{verdict-of, says}
+use Rattle.turn.specs.declared.Line as turn
+use Rattle.turn.specs.Definition.{verdict-of}
+use Rattle.stages.specs.View.{says}
 use Rattle.stages.specs.Lines.{has, says-at}
 use Rattle.decoder.specs.declared.Report.{Report}
 use Rattle.decoder.specs.Definition.{Result, answer-to, report-of, Tells}
@@ -146,7 +147,7 @@ put-three list x k h e = three list k (getD x 0 0) (getD x 1 0) (getD x 2 0) h �
 pub lines-none : (f : ℕ → Line) (l : List ℕ) → take (4 + 3 * 0) l ≡ take 4 l ++ lines-numbers 0 f
 lines-none f l = sym (append-nil (take 4 l))
 
-pub lines-more : (lines : List stages.Line) (h list next x : List ℕ) (i : ℕ) (d : stages.Line) → i < length lines
+pub lines-more : (lines : List turn.Line) (h list next x : List ℕ) (i : ℕ) (d : turn.Line) → i < length lines
     → take (4 + 3 * i) list ≡ h ++ lines-numbers i (says lines) → x ≡ line-numbers (verdict-of (getD lines i d .verdict))
     → take (4 + 3 * i + 3) next ≡ take (4 + 3 * i) list ++ x → take (4 + 3 * (i + 1)) next ≡ h ++ lines-numbers (i + 1) (says lines)
 lines-more lines h list next x i d below is line put =

@@ -8,7 +8,8 @@ ghost use lib.ListN.{length, take};
 ghost use Rattle.profile.specs.Definition.{profile-of, answer-of, answer-number, block-size as BlockSize, data-size as DataSize};
 ghost use Rattle.fetch.specs.Definition.{fetching, part as Part, refuses};
 ghost use Rattle.encoder.specs.Definition.{writing, written};
-ghost use Rattle.stages.specs.View.{verdict-of, says};
+ghost use Rattle.turn.specs.Definition.{verdict-of};
+ghost use Rattle.stages.specs.View.{says};
 ghost use Rattle.decoder.specs.Definition.{reading, answer-to, block-of};
 ghost use Rattle.cabi.specs.Definition.{if-accepted, start as Start, Stands, form-of, unsettled-stage, stage-of, line-numbers};
 ghost use Rattle.cabi.specs.Definition.{head-numbers, listed, numbers, filled};
@@ -18,8 +19,8 @@ use profile::Parsed;
 use profile::Profile;
 use profile::Refusal;
 use solver::Form;
-use stages::Line;
-use stages::Verdict;
+use turn::Line;
+use turn::Verdict;
 
 // The numbers of a report: the stage of an 8, the last stage, the changed symbols in two bytes, high byte first, and three for each of eight lines.
 const REPORT: usize = 28;

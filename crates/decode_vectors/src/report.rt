@@ -3,8 +3,8 @@ ghost use Prim.Native.Nat.{_≤_};
 use crate::print;
 use crate::state;
 use profile::Profile;
-use stages::Line;
-use stages::Verdict;
+use turn::Line;
+use turn::Verdict;
 
 // How many of the eight lines are a subword's.
 fn subwords(p: Profile) -> usize

@@ -1,6 +1,6 @@
 -- A verdict by cases.
 use mathlib.Core.Path.{sym, ap}
-use Rattle.stages.specs.View.{verdict-of}
+use Rattle.turn.specs.Definition.{verdict-of}
 use Rattle.cabi.specs.Definition.{line-numbers}
 use borrow.Author.Needs.{needs}
 use Rattle.cabi.proofs.line_numbers.Statement.{statement}

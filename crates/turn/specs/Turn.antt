@@ -34,12 +34,12 @@ use Rattle.subword.specs.Answer.{answer, Sound}
 use Rattle.continuation.specs.Definition.{Ended}
 use Rattle.staged.specs.Definition.{add, line-of, line-rounds, rounds-of}
 use Rattle.staged.specs.Stage.{line-of-corrected, line-of-first}
-use Rattle.stages.specs.declared.Verdict.{Verdict}
-use Rattle.stages.specs.declared.Verdict.the-variants.{Clean, Corrected}
 use Rattle.attempt.specs.declared.Attempted.{Attempted}
 use Rattle.attempt.specs.Definition.{Ready}
 use Rattle.attempt.specs.Zero.{zero?, zero-not}
-use Rattle.stages.specs.View.{verdict-of, Offered, Took}
+use Rattle.turn.specs.declared.Verdict.{Verdict}
+use Rattle.turn.specs.declared.Verdict.the-variants.{Clean, Corrected}
+use Rattle.turn.specs.Definition.{verdict-of, Offered, Took}
 
 -- ---- patterns
 

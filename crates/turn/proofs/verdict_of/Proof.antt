@@ -1,7 +1,7 @@
 use native.Mathlib.Omega.{arith}
-use Rattle.stages.specs.Turn.{clean-is, corrected-is}
-use Rattle.stages.proofs.verdict_of.Statement.{statement}
-use Rattle.stages.proofs.verdict_of.Tie as tie
+use Rattle.turn.specs.Turn.{clean-is, corrected-is}
+use Rattle.turn.proofs.verdict_of.Statement.{statement}
+use Rattle.turn.proofs.verdict_of.Tie as tie
 
 returns : tie.Need-returns
 returns c = clean-is (c .before .before .args .r) (c .before .before .args .count) (omega arith) (omega arith)

@@ -2,10 +2,10 @@ use mathlib.Core.Path.{refl, sym, _∙_}
 use mathlib.Core.Bool.{true≢false}
 use Rattle.profile.specs.Laws.{unless, meets}
 use Rattle.attempt.specs.Zero.{zero-row}
-use Rattle.stages.specs.Turn.{clean-yes, took-clean, offered}
+use Rattle.turn.specs.Turn.{clean-yes, took-clean, offered}
 use borrow.Author.Needs.{needs}
-use Rattle.stages.proofs.turn.Statement.{statement}
-use Rattle.stages.proofs.turn.Tie as tie
+use Rattle.turn.proofs.turn.Statement.{statement}
+use Rattle.turn.proofs.turn.Tie as tie
 
 returns : tie.Need-returns
 returns c =

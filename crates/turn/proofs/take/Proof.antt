@@ -1,8 +1,8 @@
 use Rattle.profile.specs.Laws.{unless, meets}
-use Rattle.stages.specs.Turn.{took-none, took-some}
+use Rattle.turn.specs.Turn.{took-none, took-some}
 use borrow.Author.Needs.{needs}
-use Rattle.stages.proofs.take.Statement.{statement}
-use Rattle.stages.proofs.take.Tie as tie
+use Rattle.turn.proofs.take.Statement.{statement}
+use Rattle.turn.proofs.take.Tie as tie
 
 returns : tie.Need-returns
 returns c = λ f S o. took-none _ f _ _ S _ (c .before .before .before .before .before .args .a) o (unless _ (c .if1 .taken)) _

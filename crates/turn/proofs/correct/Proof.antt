@@ -9,10 +9,10 @@ use Rattle.series.specs.Shift.{zpow, cut}
 use Rattle.series.specs.Array.{bytes, values, read-at}
 use Rattle.kernel.specs.Store.{append-none, add-more, bytes-xor}
 use Rattle.code.specs.Check.{inside}
-use Rattle.stages.specs.Turn.{added}
+use Rattle.turn.specs.Turn.{added}
 use borrow.Author.Needs.{needs}
-use Rattle.stages.proofs.correct.Statement.{statement}
-use Rattle.stages.proofs.correct.Tie as tie
+use Rattle.turn.proofs.correct.Statement.{statement}
+use Rattle.turn.proofs.correct.Tie as tie
 
 abbrev Inv-loop : tie.InvT-loop
 Inv-loop i block₀ pattern n a q₀ block q =

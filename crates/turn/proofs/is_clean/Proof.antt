@@ -1,8 +1,8 @@
 use mathlib.Core.Path.{_∙_}
-use Rattle.stages.specs.Turn.{clean-later, clean-first}
+use Rattle.turn.specs.Turn.{clean-later, clean-first}
 use borrow.Author.Needs.{needs}
-use Rattle.stages.proofs.is_clean.Statement.{statement}
-use Rattle.stages.proofs.is_clean.Tie as tie
+use Rattle.turn.proofs.is_clean.Statement.{statement}
+use Rattle.turn.proofs.is_clean.Tie as tie
 
 returns : tie.Need-returns
 returns c = clean-later _ _ (c .if1 .taken)
