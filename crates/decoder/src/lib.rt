@@ -53,7 +53,7 @@ fn judge(p: Profile, input: usize, output: usize) -> Parsed
 fn questions(profile: &[u8], input: usize, output: usize) -> Parsed
     ensures { λ a. ⌜ a ≡ questioned (now (profile .entry)) input output ⌝ }
 {
-    match profile::parse(profile) {
+    match parse::parse(profile) {
         Parsed::Accepted(p) => judge(p, input, output),
         Parsed::Refused(q) => Parsed::Refused(q),
     }

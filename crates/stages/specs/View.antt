@@ -31,7 +31,7 @@ use Rattle.continuation.specs.Definition.{Ended}
 use Rattle.staged.specs.Definition as staged
 use Rattle.staged.specs.Definition.{Progress, count, line-at, line-rounds, stage, round, start, stages, settled, stopped}
 use Rattle.attempt.specs.Definition.{earlier}
-use Rattle.extension.specs.Definition.{flag}
+use Rattle.lagrange.specs.Definition.{flag}
 use Rattle.turn.specs.declared.Line.{Line}
 use Rattle.turn.specs.Definition.{verdict-of}
 use Rattle.stages.specs.declared.Staged.{Staged}

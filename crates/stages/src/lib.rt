@@ -83,7 +83,7 @@ fn follows(p: Profile, r: u8, pending: [bool; SUBWORDS]) -> bool
     requires { ⌜ Valid p × (r ≤ p .nested) ⌝ }
     ensures { λ b. ⌜ b ≡ (leb 1 (waiting p pending) && leb (waiting p pending) (p .nested - r)) ⌝ }
 {
-    let b = extension::unsettled(p, pending);
+    let b = lagrange::unsettled(p, pending);
     if b == 0 {
         return false;
     }
@@ -121,7 +121,7 @@ pub fn run(p: Profile, form: Form, block: &mut [u8]) -> Ending
         lines = s.lines;
     }
     Ending {
-        settled: extension::unsettled(p, pending) == 0,
+        settled: lagrange::unsettled(p, pending) == 0,
         stage: r,
         lines: lines,
     }

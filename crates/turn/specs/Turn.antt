@@ -22,6 +22,7 @@ use Rattle.series.specs.Value.{value-zero}
 use Rattle.series.specs.Word.{entry, word, weight, word-cut, weight-word, weight-O, zero-weight}
 use Rattle.series.specs.Decide.{holds}
 use Rattle.polynomial.specs.Polynomial.{row}
+use Rattle.syndromes.specs.Zero.{zero?, zero-not}
 use Rattle.profile.specs.declared.Profile.{Profile}
 use Rattle.profile.specs.Definition.{capability}
 use Rattle.solver.specs.declared.Form.{Form}
@@ -36,7 +37,6 @@ use Rattle.staged.specs.Definition.{add, line-of, line-rounds, rounds-of}
 use Rattle.staged.specs.Stage.{line-of-corrected, line-of-first}
 use Rattle.attempt.specs.declared.Attempted.{Attempted}
 use Rattle.attempt.specs.Definition.{Ready}
-use Rattle.attempt.specs.Zero.{zero?, zero-not}
 use Rattle.turn.specs.declared.Verdict.{Verdict}
 use Rattle.turn.specs.declared.Verdict.the-variants.{Clean, Corrected}
 use Rattle.turn.specs.Definition.{verdict-of, Offered, Took}

@@ -8,13 +8,13 @@ ghost use Rattle.series.specs.Shift.{cut};
 ghost use Rattle.series.specs.Array.{bytes, values};
 ghost use Rattle.series.specs.Decide.{holds};
 ghost use Rattle.polynomial.specs.Polynomial.{row as Row};
+ghost use Rattle.syndromes.specs.Zero.{zero?};
 ghost use Rattle.profile.specs.Definition.{capability};
 ghost use Rattle.code.specs.Check.{Fits};
 ghost use Rattle.settle.specs.Definition.{settle as Settle};
 ghost use Rattle.subword.specs.Answer.{answer};
 ghost use Rattle.staged.specs.Definition.{add, line-of};
 ghost use Rattle.attempt.specs.Definition.{Ready};
-ghost use Rattle.attempt.specs.Zero.{zero?};
 ghost use Rattle.turn.specs.Definition.{verdict-of, Offered, Took, Stayed};
 use attempt::Attempted;
 use field::Gf;
@@ -104,7 +104,7 @@ fn is_clean(r: u8, row: [Gf; SYNDROMES]) -> bool
     if r != 0 {
         return false;
     }
-    attempt::is_zero(row)
+    syndromes::is_zero(row)
 }
 
 // Stage r of subword i. A clean subword runs no solver; one that is settled stays as it is.

@@ -1,6 +1,6 @@
 -- The table that is there, or a new one.
 use native.Mathlib.Omega.{arith}
-use Rattle.encoder.specs.Write.{table-for}
+use Rattle.carry.specs.Subword.{table-for}
 use borrow.Author.Needs.{needs}
 use Rattle.encoder.proofs.prepare.Statement.{statement}
 use Rattle.encoder.proofs.prepare.Tie as tie

@@ -9,7 +9,8 @@ use Rattle.profile.specs.Definition.{data-start}
 use Rattle.profile.specs.Valid.{checks-some, checks-most, data-size-is}
 use Rattle.code.specs.Check.{Fits}
 use Rattle.code.specs.Right.{all-right}
-use Rattle.encoder.specs.Write.{Made, Upper, turn, part-data, upper-next, table-for}
+use Rattle.carry.specs.Subword.{table-for}
+use Rattle.encoder.specs.Write.{Made, Upper, turn, part-data, upper-next}
 use borrow.Author.Needs.{needs}
 use Rattle.encoder.proofs.write.Statement.{statement}
 use Rattle.encoder.proofs.write.Tie as tie

@@ -1,7 +1,7 @@
 use mathlib.Core.Path.{refl, sym, _∙_}
 use mathlib.Core.Bool.{true≢false}
+use Rattle.syndromes.specs.Zero.{zero-row}
 use Rattle.profile.specs.Laws.{unless, meets}
-use Rattle.attempt.specs.Zero.{zero-row}
 use Rattle.turn.specs.Turn.{clean-yes, took-clean, offered}
 use borrow.Author.Needs.{needs}
 use Rattle.turn.proofs.turn.Statement.{statement}
