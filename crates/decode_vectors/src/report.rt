@@ -1,8 +1,7 @@
 // A report: the subwords' lines, and the states of their solvers.
 ghost use Prim.Native.Nat.{_≤_};
-use crate::print;
-use crate::state;
 use profile::Profile;
+use text::print;
 use turn::Line;
 use turn::Verdict;
 

@@ -1,8 +1,8 @@
 -- The loop ends: i rises to 255.
 use Prim.Native.Nat.{_-_}
 use borrow.Author.Needs.{needs}
-use Rattle.settle_vectors.proofs.print.changes.Statement.{statement}
-use Rattle.settle_vectors.proofs.print.changes.Tie as tie
+use Rattle.settle_vectors.proofs.changes.Statement.{statement}
+use Rattle.settle_vectors.proofs.changes.Tie as tie
 
 abbrev Inv-loop : tie.InvT-loop
 Inv-loop pattern i₀ i = Unit {0}

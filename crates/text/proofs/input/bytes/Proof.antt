@@ -3,8 +3,8 @@ use mathlib.Core.Path.{sym}
 use native.Mathlib.Omega.{arith}
 use lib.Seq.{length-take-le, length-front}
 use borrow.Author.Needs.{needs}
-use Rattle.decode_vectors.proofs.input.bytes.Statement.{statement}
-use Rattle.decode_vectors.proofs.input.bytes.Tie as tie
+use Rattle.text.proofs.input.bytes.Statement.{statement}
+use Rattle.text.proofs.input.bytes.Tie as tie
 
 large-buffer-requires : tie.Need-large-buffer-requires
 large-buffer-requires c κs = search needs

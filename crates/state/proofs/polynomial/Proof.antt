@@ -1,8 +1,8 @@
 -- The loop ends: i rises past the last index.
 use Prim.Native.Nat.{_+_, _-_}
 use borrow.Author.Needs.{needs}
-use Rattle.decode_vectors.proofs.state.polynomial.Statement.{statement}
-use Rattle.decode_vectors.proofs.state.polynomial.Tie as tie
+use Rattle.state.proofs.polynomial.Statement.{statement}
+use Rattle.state.proofs.polynomial.Tie as tie
 
 abbrev Inv-loop : tie.InvT-loop
 Inv-loop f last i₀ i = Unit {0}

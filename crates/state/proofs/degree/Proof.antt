@@ -1,8 +1,8 @@
 -- The loop keeps n below 49, and ends: n falls.
 use Prim.Native.Nat.{_<_}
 use borrow.Author.Needs.{needs}
-use Rattle.decode_vectors.proofs.state.degree.Statement.{statement}
-use Rattle.decode_vectors.proofs.state.degree.Tie as tie
+use Rattle.state.proofs.degree.Statement.{statement}
+use Rattle.state.proofs.degree.Tie as tie
 
 abbrev Inv-loop : tie.InvT-loop
 Inv-loop f n₀ n = n < 49

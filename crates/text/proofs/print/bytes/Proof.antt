@@ -2,8 +2,8 @@
 use Prim.Native.Nat.{_-_}
 use lib.ListN.{length}
 use borrow.Author.Needs.{needs}
-use Rattle.decode_vectors.proofs.print.bytes.Statement.{statement}
-use Rattle.decode_vectors.proofs.print.bytes.Tie as tie
+use Rattle.text.proofs.print.bytes.Statement.{statement}
+use Rattle.text.proofs.print.bytes.Tie as tie
 
 abbrev Inv-loop : tie.InvT-loop
 Inv-loop s i₀ i = Unit {0}

@@ -1,16 +1,13 @@
-// A solver's state: Λ, B and γ; k and L; where the form has them, Δ, Θ and the held scalars.
+// A solver's state as text: Λ, B and γ; k and L; where the form has them, Δ, Θ and the held scalars.
 ghost use Prim.Native.Nat.{_<_};
-use crate::print;
 use field::Gf;
 use lookahead::Lookahead;
 use plain::Plain;
 use scaled::Scaled;
 use solver::Form;
 use solver::Solver;
-
-fn value(x: Gf) {
-    print::number(x.0 as usize);
-}
+use text::print;
+use text::print::value;
 
 // The index of the last coefficient that is not zero, or 0.
 fn degree(f: [Gf; 49]) -> usize

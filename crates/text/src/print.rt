@@ -1,4 +1,5 @@
 // The fields of a line.
+use field::Gf;
 
 pub fn text(s: &[u8]) {
     io::write_all(1, s);
@@ -7,6 +8,10 @@ pub fn text(s: &[u8]) {
 pub fn number(n: usize) {
     io::write_all(1, b" ");
     io::print_decimal(1, n as u64);
+}
+
+pub fn value(x: Gf) {
+    number(x.0 as usize);
 }
 
 // a - b
