@@ -1,7 +1,6 @@
 // One stage of one subword that is not settled yet. What the promises speak of stands in specs/Definition.antt.
 ghost use Prim.Native.Nat.{_*_, _≤_};
 ghost use mathlib.Core.Path.{_≡_};
-ghost use Rattle.series.specs.Decide.{holds};
 ghost use Rattle.polynomial.specs.Polynomial.{row as Row};
 ghost use Rattle.profile.specs.Definition.{capability};
 ghost use Rattle.profile.specs.Valid.{Valid};
@@ -10,7 +9,6 @@ ghost use Rattle.staged.specs.Definition.{rounds-of};
 ghost use Rattle.continuation.specs.Definition.{Ended};
 ghost use Rattle.subword.specs.Answer.{answer, Sound};
 ghost use Rattle.attempt.specs.Definition.{known as Known, Ready, Tried};
-ghost use Rattle.attempt.specs.Zero.{zero?};
 use field::Gf;
 use polynomial::SYNDROMES;
 use profile::Profile;
@@ -75,19 +73,4 @@ pub fn attempt(p: Profile, r: u8, s: Solver, row: [Gf; SYNDROMES]) -> Attempted
         solver: next,
         settled: tried(next, row, n, t),
     }
-}
-
-// Whether a row of syndromes is zero: the pattern of zeros settles such a subword, and no solver is needed.
-pub fn is_zero(row: [Gf; SYNDROMES]) -> bool
-    ensures { λ r. ⌜ r ≡ holds (zero? row) ⌝ }
-{
-    let mut i: usize = 0;
-    while i < SYNDROMES {
-        let g = row[i];
-        if !g.is_zero() {
-            return false;
-        }
-        i = i + 1;
-    }
-    true
 }

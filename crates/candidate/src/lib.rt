@@ -143,7 +143,7 @@ pub fn numerator(locator: [Gf; COEFFICIENTS], row: [Gf; SYNDROMES], m: usize) ->
     let mut out = [0u8; TERMS];
     let mut i: usize = 0;
     while i < m {
-        let g = polynomial::convolve(locator, row, i);
+        let g = syndromes::convolve(locator, row, i);
         out[i] = g.0;
         i = i + 1;
     }

@@ -120,7 +120,7 @@ fn judge_bytes(bytes: &[u8], line: &mut [u8; LINE]) -> Turn
     requires { ⌜ length (now bytes) ≡ 7 ⌝ }
     ensures { λ t. ⌜ Turns Section.Bytes (now (bytes .entry)) t (now (line .exit)) ⌝ }
 {
-    match profile::parse(bytes) {
+    match parse::parse(bytes) {
         Parsed::Accepted(p) => Turn {
             next: Section::Count(p),
             size: 0,

@@ -6,35 +6,11 @@ ghost use Prim.Native.Nat.{_+_, _≤_, _<_};
 ghost use mathlib.Core.Path.{_≡_};
 ghost use mathlib.Core.Bool.{false};
 ghost use lib.ListN.{length};
-ghost use Rattle.io.specs.Counts.{Counts};
 ghost use Rattle.card.specs.Turn.{wanted, Good, over, left};
 use card::Section;
 use listing::LINE;
-
-fn wide(x: u8) -> usize
-    ensures { λ r. ⌜ r < 256 ⌝ }
-{
-    x as usize
-}
-
-// A number of two bytes.
-fn number() -> usize
-    ensures { λ r. ⌜ r < 65536 ⌝ }
-{
-    let mut space = [0u8; 2];
-    io::read_full(0, &mut space);
-    256 * wide(space[0]) + wide(space[1])
-}
-
-// The next n bytes.
-fn bytes(n: usize) -> [u8; 65536]
-    requires { ⌜ n ≤ 65536 ⌝ }
-    ensures { λ r. ⌜ Counts n r ⌝ }
-{
-    let mut space = io::large_buffer();
-    io::read_full(0, &mut space[..n]);
-    space
-}
+use text::input;
+use text::print;
 
 fn blank() -> [u8; LINE] {
     [0u8; LINE]
@@ -78,16 +54,16 @@ fn list(card: &[u8]) {
 }
 
 fn one() {
-    let n = number();
-    let space = bytes(n);
-    io::write_all(1, b"card of ");
-    io::print_decimal(1, n as u64);
-    io::write_all(1, b"\n");
+    let n = input::number();
+    let space = input::bytes(n);
+    print::text(b"card of");
+    print::number(n);
+    print::text(b"\n");
     list(&space[..n]);
 }
 
 fn main() {
-    let count = number();
+    let count = input::number();
     let mut i: usize = 0;
     while i < count {
         one();

@@ -9,15 +9,14 @@
 // Standard input is the number of cases and the cases. A case is a byte, 0 for a profile, 1 for a write and 2 for a fetch; a byte with the size of
 // the profile, and the profile; for a write the size of the data, the data and the size of the output; for a fetch the size of the block, the block
 // and the number of the subword. These numbers have two bytes, the high byte first.
-mod input;
-mod print;
-
 ghost use Prim.Native.Nat.{_≤_};
 ghost use mathlib.Core.Path.{_≡_};
 ghost use lib.ListN.{length};
 ghost use Rattle.io.specs.Counts.{Counts};
 use profile::Answer;
 use profile::Parsed;
+use text::input;
+use text::print;
 
 fn answer(a: Answer) {
     print::text(b" |");
@@ -30,7 +29,7 @@ fn parsed(number: u8, size: usize) {
 }
 
 fn profile_case(profile: &[u8]) {
-    match profile::parse(profile) {
+    match parse::parse(profile) {
         Parsed::Accepted(p) => parsed(0, p.data_size()),
         Parsed::Refused(q) => parsed(profile::number(q), 0),
     }

@@ -13,10 +13,7 @@
 //
 // Standard input is the number of cases and the cases. A case is a byte, 1 for one with states; a byte with the size of the profile, and the profile;
 // the size of the block, and the block; the size of the output. These numbers have two bytes, the high byte first.
-mod input;
-mod print;
 mod report;
-mod state;
 
 ghost use Prim.Native.Nat.{_≤_};
 ghost use mathlib.Core.Path.{_≡_};
@@ -28,6 +25,8 @@ use profile::Parsed;
 use profile::Profile;
 use profile::Refusal;
 use solver::Form;
+use text::input;
+use text::print;
 
 // What an output holds before a block is read.
 const BEFORE: u8 = 170;
@@ -91,7 +90,7 @@ fn show(p: Profile, block: &[u8], out: &[u8], report: Report, states: bool) {
 }
 
 fn accepted(profile: &[u8], block: &[u8], out: &[u8], report: Report, states: bool) {
-    match profile::parse(profile) {
+    match parse::parse(profile) {
         Parsed::Accepted(p) => show(p, block, out, report, states),
         Parsed::Refused(_) => print::text(b" accepted with a refused profile\n"),
     }

@@ -1,10 +1,9 @@
 // A report: the subwords' lines, and the states of their solvers.
 ghost use Prim.Native.Nat.{_≤_};
-use crate::print;
-use crate::state;
 use profile::Profile;
-use stages::Line;
-use stages::Verdict;
+use text::print;
+use turn::Line;
+use turn::Verdict;
 
 // How many of the eight lines are a subword's.
 fn subwords(p: Profile) -> usize

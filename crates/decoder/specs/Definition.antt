@@ -30,7 +30,7 @@ use Rattle.continuation.specs.Definition.{Ended}
 use Rattle.staged.specs.Definition as staged
 use Rattle.staged.specs.Definition.{Outcome, accepted, failed, foreign, decode}
 use Rattle.staged.specs.Clean.{untouched}
-use Rattle.stages.specs.declared.Line.{Line}
+use Rattle.turn.specs.declared.Line.{Line}
 use Rattle.stages.specs.View.{says, Has}
 use Rattle.decoder.specs.declared.Report.{Report}
 use Rattle.decoder.specs.declared.Reading.{Reading}

@@ -29,9 +29,10 @@ use Rattle.solver.specs.declared.Form.{Form}
 use Rattle.staged.specs.Definition.{total, count-of, settled, report, decode}
 use Rattle.staged.specs.Count.{total-cong}
 use Rattle.staged.specs.Clean.{untouched, decode-codeword}
-use Rattle.stages.specs.declared.Line.{Line}
+use Rattle.turn.specs.declared.Line.{Line}
+use Rattle.turn.specs.Definition.{verdict-of}
 use Rattle.stages.specs.declared.Ending.{Ending}
-use Rattle.stages.specs.View.{verdict-of, says, Reached}
+use Rattle.stages.specs.View.{says, Reached}
 use Rattle.stages.specs.Lines.{has, says-at}
 use Rattle.decoder.specs.declared.Reading.{Reading}
 use Rattle.decoder.specs.Definition.{questioned, concluded, refused, Tells, Gives}

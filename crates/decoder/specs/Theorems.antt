@@ -41,7 +41,7 @@ use Rattle.staged.specs.Restorable.{Unmistaken, Restorable, TooMany, Restored}
 use Rattle.staged.specs.Restoring.{restoring-bytes}
 use Rattle.staged.specs.Failing.{failing-exactly}
 use Rattle.staged.specs.Clean.{untouched, decode-codeword}
-use Rattle.stages.specs.declared.Line.{Line}
+use Rattle.turn.specs.declared.Line.{Line}
 use Rattle.stages.specs.View.{says, Has}
 use Rattle.decoder.specs.declared.Reading.{Reading}
 use Rattle.decoder.specs.Definition.{questioned, Result, read, concluded, judged, reading, answer-to, block-of, report-of, Gives}

@@ -7,7 +7,8 @@ ghost use Rattle.series.specs.Array.{bytes};
 ghost use Rattle.code.specs.Check.{Fits};
 ghost use Rattle.staged.specs.Definition.{decode as Decode, total, count-of};
 ghost use Rattle.staged.specs.Clean.{untouched};
-ghost use Rattle.stages.specs.View.{verdict-of, says, Reached};
+ghost use Rattle.turn.specs.Definition.{verdict-of};
+ghost use Rattle.stages.specs.View.{says, Reached};
 ghost use Rattle.decoder.specs.Definition.{asked, questioned, concluded, reading, answer-to, block-of, report-of, Tells, Gives};
 use code::SUBWORDS;
 use profile::Answer;
@@ -16,8 +17,8 @@ use profile::Profile;
 use profile::Refusal;
 use solver::Form;
 use stages::Ending;
-use stages::Line;
-use stages::Verdict;
+use turn::Line;
+use turn::Verdict;
 
 // The most symbols of a block.
 const SYMBOLS: usize = 2040;
@@ -52,7 +53,7 @@ fn judge(p: Profile, input: usize, output: usize) -> Parsed
 fn questions(profile: &[u8], input: usize, output: usize) -> Parsed
     ensures { λ a. ⌜ a ≡ questioned (now (profile .entry)) input output ⌝ }
 {
-    match profile::parse(profile) {
+    match parse::parse(profile) {
         Parsed::Accepted(p) => judge(p, input, output),
         Parsed::Refused(q) => Parsed::Refused(q),
     }

@@ -1,70 +1,15 @@
-// Writing a block: the one codeword with the given data in its data positions.
-// Subwords are written from the last to the first. Subword i is e plus the Reed-Solomon word of the data plus e, e being what the subwords above bring to it.
-ghost use Prim.Native.Nat.{_+_, _-_, _*_, _≤_, _<_};
+// Writing a block: the one codeword with the given data in its data positions. Subwords are written from the last to the first.
 ghost use mathlib.Core.Path.{_≡_};
 ghost use lib.ListN.{length};
-ghost use Rattle.field.specs.Field.{_⊙_, inv, val};
-ghost use Rattle.series.specs.Series.{_⊞_};
-ghost use Rattle.series.specs.Shift.{cut, drop};
 ghost use Rattle.series.specs.Array.{bytes};
-ghost use Rattle.profile.specs.Definition.{answer-of, checks as Checks, room as Room, data-size as DataSize};
-ghost use Rattle.reed_solomon.specs.Encoder.{Table};
+ghost use Rattle.profile.specs.Definition.{answer-of, data-size as DataSize};
 ghost use Rattle.code.specs.Definition.{Encodes};
-ghost use Rattle.code.specs.Newton.{newton as Newton};
-ghost use Rattle.code.specs.Triangle.{carried as Carried};
 ghost use Rattle.code.specs.Check.{Fits};
 ghost use Rattle.encoder.specs.Definition.{asked, writing, written};
-ghost use Rattle.encoder.specs.Write.{filled, Wrote};
-use code::POSITIONS;
-use field::Exponent;
-use field::Gf;
 use profile::Answer;
 use profile::Parsed;
 use profile::Profile;
 use profile::Refusal;
-
-// (x + α^0) .. (x + α^(i-1)) at x = α^k: Newton's polynomial i.
-fn newton(i: usize, k: usize) -> Gf
-    ensures { λ r. ⌜ val r ≡ Newton i k ⌝ }
-{
-    let x = Exponent(k).power();
-    let mut b = Gf::ONE;
-    let mut j: usize = 0;
-    while j < i {
-        let y = Exponent(j).power();
-        b = b.product(x.sum(y));
-        j = j + 1;
-    }
-    b
-}
-
-// How much of subword k is brought to subword i, i below v.
-fn ratio(i: usize, k: usize) -> Gf
-    ensures { λ r. ⌜ val r ≡ Newton i k ⊙ inv (Newton i i) ⌝ }
-{
-    let d = newton(i, i).inverse();
-    newton(i, k).product(d)
-}
-
-// What the subwords above i bring to subword i: nothing from subword v on.
-fn carried(p: Profile, i: usize, block: &[u8]) -> [u8; POSITIONS]
-    requires { ⌜ Fits p (now block) × (i < p .subwords) ⌝ }
-    ensures { λ r. ⌜ bytes r ≡ cut (p .length) (Carried p (bytes (now (block .entry))) i) ⌝ }
-{
-    let m = p.subwords as usize;
-    let v = p.nested as usize;
-    let mut word = [0u8; POSITIONS];
-    if v <= i {
-        return word;
-    }
-    let mut k = i + 1;
-    while k < m {
-        let c = ratio(i, k);
-        code::add_subword(p, c, block, k, &mut word);
-        k = k + 1;
-    }
-    word
-}
 
 // The questions about the sizes of input and output.
 fn judge(p: Profile, input: usize, output: usize) -> Parsed
@@ -83,45 +28,10 @@ fn judge(p: Profile, input: usize, output: usize) -> Parsed
 fn questions(profile: &[u8], input: usize, output: usize) -> Parsed
     ensures { λ a. ⌜ a ≡ writing (now (profile .entry)) input output ⌝ }
 {
-    match profile::parse(profile) {
+    match parse::parse(profile) {
         Parsed::Accepted(p) => judge(p, input, output),
         Parsed::Refused(q) => Parsed::Refused(q),
     }
-}
-
-// The data plus e, from position k on.
-fn place(k: usize, e: &[u8], input: &[u8], word: &mut [u8])
-    requires { ⌜ (length (now word) ≡ k + length (now input)) × (length (now e) ≡ length (now word)) ⌝ }
-    ensures { λ _. ⌜ drop k (bytes (now (word .exit))) ≡ bytes (now (input .entry)) ⊞ drop k (bytes (now (e .entry))) ⌝ }
-{
-    let mut q: usize = 0;
-    while q < input.len() {
-        word[k + q] = input[q] ^ e[k + q];
-        q = q + 1;
-    }
-}
-
-// The word is e plus the Reed-Solomon word of the data plus e.
-fn fill(t: &[u64], k: usize, e: &[u8], input: &[u8], word: &mut [u8])
-    requires { ⌜ Table k (now t) × (k ≤ 48) × (length (now word) ≡ k + length (now input)) × (length (now e) ≡ length (now word)) ⌝ }
-    ensures { λ _. ⌜ bytes (now (word .exit)) ≡ filled (length (now (word .entry))) k (bytes (now (input .entry))) (bytes (now (e .entry))) ⌝ }
-{
-    place(k, e, input, word);
-    reed_solomon::encode(t, k, word);
-    kernel::add(e, word);
-}
-
-// Subword i, once those above it are written.
-fn write_subword(p: Profile, t: &[u64], i: usize, input: &[u8], out: &mut [u8])
-    requires { ⌜ Fits p (now out) × (i < p .subwords) × Table (Checks p i) (now t) × (length (now input) ≡ Room p i) ⌝ }
-    ensures { λ _. ⌜ Wrote p (bytes (now (input .entry))) i (bytes (now (out .entry))) (bytes (now (out .exit))) ⌝ }
-{
-    let n = p.length as usize;
-    let k = p.checks(i as u8) as usize;
-    let e = carried(p, i, &out[..]);
-    let a = i * n;
-    let b = a + n;
-    fill(t, k, &e[..n], input, &mut out[a..b]);
 }
 
 // The whole block. A table is made for each number of check symbols.
@@ -140,7 +50,7 @@ fn write(p: Profile, input: &[u8], out: &mut [u8])
         reed_solomon::prepare(&mut t, made, k);
         made = k;
         let start = end - (n - k);
-        write_subword(p, &t, i, &input[start..end], out);
+        carry::write_subword(p, &t, i, &input[start..end], out);
         end = start;
     }
 }

@@ -1,20 +1,13 @@
 -- What a round reads, and the words that it takes its new syndromes of.
 --
---   flag o i                 entry i of an array of flags
---   others b i j             j passes the test b and is not i
---   product n b k            the product of α^k + α^j over the j below n that pass b
---   lagrange m b i k         Lagrange's polynomial at α^k: it is one at α^i, and zero at α^j for the other j below m that pass b
 --   merged p b s i           subwords 0 to m − 1 of the block s, each times its `lagrange`, in one word
 --   extended p a b o s i r   the row r of subword i after a round: with syndromes S_a to S_(b−1) of its merged word, if its flag says unsettled
 --   Seen p o s t g           flags, block and table of syndromes are those of the progress g
-use Prim.Native.Nat.{ℕ, zero, suc, _<_}
+use Prim.Native.Nat.{ℕ, _<_}
 use mathlib.Core.Path.{_≡_}
-use mathlib.Core.Bool.{Bool, false, not, cond, _&&_}
+use mathlib.Core.Bool.{Bool, cond}
 use mathlib.Core.List.{List}
-use lib.Dec.{eqb}
-use lib.ListN.{getD}
 use Rattle.field.specs.declared.Gf.{Gf}
-use Rattle.field.specs.Field.{F, 𝟏, α, _⊕_, _⊙_, pow, inv}
 use Rattle.series.specs.Series.{Series}
 use Rattle.series.specs.Array.{bytes}
 use Rattle.profile.specs.declared.Profile.{Profile}
@@ -22,23 +15,7 @@ use Rattle.reed_solomon.specs.Definition.{syndrome}
 use Rattle.code.specs.Combined.{combined}
 use Rattle.code.specs.Check.{table}
 use Rattle.staged.specs.Definition.{Progress, open?, window}
-
--- ---- Lagrange's polynomials
-
-abbrev pub flag : List Bool → ℕ → Bool
-flag o i = getD o i false
-
-abbrev pub others : (ℕ → Bool) → ℕ → ℕ → Bool
-others b i j = b j && not (eqb j i)
-
-unfoldable pub product : ℕ → (ℕ → Bool) → ℕ → F
-product zero b k = 𝟏
-product (suc n) b k = product n b k ⊙ cond (b n) (pow α k ⊕ pow α n) 𝟏
-
-unfoldable pub lagrange : ℕ → (ℕ → Bool) → ℕ → ℕ → F
-lagrange m b i k = product m (others b i) k ⊙ inv (product m (others b i) i)
-
--- ---- rows
+use Rattle.lagrange.specs.Definition.{flag, lagrange}
 
 -- for an unsettled subword i, b telling the unsettled ones, the solution of document 01's small system is the syndrome of this word
 abbrev pub merged : Profile → (ℕ → Bool) → Series → ℕ → Series

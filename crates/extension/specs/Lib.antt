@@ -1,4 +1,3 @@
--- Definition is what the promises speak of; the others prove them.
+-- Definition is what the promises speak of; Rows proves them.
 pub mod Definition
-pub mod Lagrange
 pub mod Rows

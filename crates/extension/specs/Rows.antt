@@ -35,8 +35,9 @@ use Rattle.code.specs.Check.{table, prefix-syndrome}
 use Rattle.staged.specs.Definition.{put, Progress, open?, unsettled, fresh, window, extend}
 use Rattle.staged.specs.Stage.{put-same, put-other}
 use Rattle.staged.specs.Round.{window-low, window-high, window-none, window-more, extend-past, system-solves}
-use Rattle.extension.specs.Definition.{flag, lagrange, merged, extended, Seen}
-use Rattle.extension.specs.Lagrange.{lagrange-solves, lagrange-cong}
+use Rattle.lagrange.specs.Definition.{flag, lagrange}
+use Rattle.lagrange.specs.Lagrange.{lagrange-solves, lagrange-cong}
+use Rattle.extension.specs.Definition.{merged, extended, Seen}
 
 -- ---- the merged words
 

@@ -27,7 +27,7 @@ fn judge(p: Profile, size: usize, i: usize) -> Parsed
 fn questions(profile: &[u8], size: usize, i: usize) -> Parsed
     ensures { λ a. ⌜ a ≡ fetching (now (profile .entry)) size i ⌝ }
 {
-    match profile::parse(profile) {
+    match parse::parse(profile) {
         Parsed::Accepted(p) => judge(p, size, i),
         Parsed::Refused(q) => Parsed::Refused(q),
     }

@@ -12,7 +12,7 @@ ghost use Rattle.iteration.specs.Lookahead.{swapping, next-Λ, next-Δ, next-δ
 ghost use Rattle.lookahead.specs.View.{lookahead, clip-lookahead};
 ghost use Rattle.lookahead.specs.Step.{stepped};
 use field::Gf;
-use polynomial::coefficient;
+use syndromes::coefficient;
 
 // Λ, B, γ, the length L and the sums Δ and Θ; then what is held for iteration r, S being the syndromes so far and δ, θ the constant terms
 // of Δ and Θ: gamma_s is γ S_(r+1), delta_s is δ S_(r+1), theta_s is θ S_(r+2), g1 is S_(r+1) S_(r+3), g2 is S_(r+2) S_(r+3), h1 is γ S_(r+2),
@@ -112,7 +112,7 @@ impl Lookahead {
         let f = self.locator;
         let b = self.auxiliary;
         let delta = self.delta;
-        let zb = polynomial::times_z(b);
+        let zb = shift::times_z(b);
         polynomial::combine(self.gamma, f, delta[0], zb)
     }
 
@@ -123,8 +123,8 @@ impl Lookahead {
         let b = self.auxiliary;
         let delta = self.delta;
         let theta = self.theta;
-        let over = polynomial::over_z(delta);
-        let zb = polynomial::times_z(b);
+        let over = shift::over_z(delta);
+        let zb = shift::times_z(b);
         let left = polynomial::combine(self.gamma, over, self.gamma_s, f);
         let right = polynomial::combine(delta[0], theta, self.delta_s, zb);
         polynomial::sum(left, right)
@@ -185,7 +185,7 @@ impl Lookahead {
         let s3 = coefficient(s, at + 3);
         let f = self.locator;
         let delta = self.delta;
-        let over = polynomial::over_z(delta);
+        let over = shift::over_z(delta);
         let theta = add_multiple(over, s1, f);
         let theta_s = two_products(s3, delta[1], self.g1, f[0]);
         let d = delta[0];
@@ -202,7 +202,7 @@ impl Lookahead {
         let s3 = coefficient(s, at + 3);
         let b = self.auxiliary;
         let theta = self.theta;
-        let zb = polynomial::times_z(b);
+        let zb = shift::times_z(b);
         let next = add_multiple(theta, s1, zb);
         let theta_s = s3.product(theta[0]);
         self.step(r, s, zb, self.gamma, self.length, next, theta_s)

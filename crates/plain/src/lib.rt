@@ -32,7 +32,7 @@ impl Plain {
         ensures { λ d. ⌜ val d ≡ δ r (row s) (plain r self) ⌝ }
     {
         let locator = self.locator;
-        polynomial::convolve(locator, s, r as usize)
+        syndromes::convolve(locator, s, r as usize)
     }
 
     // Iteration r. Polynomials have 49 coefficients: what would be above is lost.
@@ -44,7 +44,7 @@ impl Plain {
         let g = self.gamma;
         let l = self.length;
         let d = self.discrepancy(r, s);
-        let zb = polynomial::times_z(b);
+        let zb = shift::times_z(b);
         let next = polynomial::combine(g, f, d, zb);
         if swap::swaps(d, l, r) {
             return Plain {

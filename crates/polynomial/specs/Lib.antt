@@ -1,2 +1,1 @@
 pub mod Polynomial
-pub mod Partial

@@ -1,19 +1,14 @@
-// Polynomials over GF(256) with at most 49 coefficients, and tables of 48 syndromes.
-// The promises are equations of power series: `poly f` is the array f as a polynomial, `row s` a table of syndromes as a sequence.
-ghost use Prim.Native.Nat.{_-_};
+// Polynomials over GF(256) with at most 49 coefficients: sums, scalars and values.
+// The promises are equations of power series: `poly f` is the array f as a polynomial. A table of 48 syndromes is a sequence, `row s`.
 ghost use mathlib.Core.Path.{_≡_};
 ghost use Rattle.field.specs.Field.{val};
-ghost use Rattle.series.specs.Series.{O, K, Z, _⊞_, _⊠_, tail};
-ghost use Rattle.series.specs.Shift.{cut};
-ghost use Rattle.series.specs.Value.{value, odd};
-ghost use Rattle.polynomial.specs.Polynomial.{poly, row};
+ghost use Rattle.series.specs.Series.{O, K, _⊞_, _⊠_};
+ghost use Rattle.series.specs.Value.{value};
+ghost use Rattle.polynomial.specs.Polynomial.{poly};
 use field::Gf;
 
 // Coefficient i stands at index i.
 pub const COEFFICIENTS: usize = 49;
-
-// The highest degree.
-pub const DEGREE: usize = COEFFICIENTS - 1;
 
 pub const SYNDROMES: usize = 48;
 
@@ -64,45 +59,6 @@ pub fn combine(a: Gf, f: [Gf; COEFFICIENTS], b: Gf, g: [Gf; COEFFICIENTS]) -> [G
     sum(p, q)
 }
 
-// The top coefficient is lost.
-pub fn times_z(f: [Gf; COEFFICIENTS]) -> [Gf; COEFFICIENTS]
-    ensures { λ r. ⌜ poly r ≡ cut 49 (Z ⊠ poly f) ⌝ }
-{
-    let mut out = [Gf::ZERO; COEFFICIENTS];
-    let mut i: usize = 0;
-    while i < DEGREE {
-        out[i + 1] = f[i];
-        i = i + 1;
-    }
-    out
-}
-
-// The constant term is lost.
-pub fn over_z(f: [Gf; COEFFICIENTS]) -> [Gf; COEFFICIENTS]
-    ensures { λ r. ⌜ poly r ≡ tail (poly f) ⌝ }
-{
-    let mut out = [Gf::ZERO; COEFFICIENTS];
-    let mut i: usize = 0;
-    while i < DEGREE {
-        out[i] = f[i + 1];
-        i = i + 1;
-    }
-    out
-}
-
-// The terms of odd degree; the others stay zero.
-pub fn odd_part(f: [Gf; COEFFICIENTS]) -> [Gf; COEFFICIENTS]
-    ensures { λ r. ⌜ poly r ≡ odd (poly f) ⌝ }
-{
-    let mut out = [Gf::ZERO; COEFFICIENTS];
-    let mut i: usize = 1;
-    while i < COEFFICIENTS {
-        out[i] = f[i];
-        i = i + 2;
-    }
-    out
-}
-
 // By Horner's rule, from the top.
 pub fn value_at(f: [Gf; COEFFICIENTS], x: Gf) -> Gf
     ensures { λ r. ⌜ val r ≡ value 49 (poly f) (val x) ⌝ }
@@ -115,49 +71,4 @@ pub fn value_at(f: [Gf; COEFFICIENTS], x: Gf) -> Gf
         v = p.sum(f[i]);
     }
     v
-}
-
-// Zero past the table's end.
-pub fn coefficient(s: [Gf; SYNDROMES], i: usize) -> Gf
-    ensures { λ r. ⌜ val r ≡ row s i ⌝ }
-{
-    if i < SYNDROMES {
-        return s[i];
-    }
-    Gf::ZERO
-}
-
-// The first term of coefficient r of a product with a table of syndromes: below it the table is read past its end.
-fn first_term(r: usize) -> usize
-    ensures { λ i. ⌜ i ≡ r - 47 ⌝ }
-{
-    if r < SYNDROMES {
-        return 0;
-    }
-    r - (SYNDROMES - 1)
-}
-
-// One more than the last term: the lesser of r + 1 and 49.
-fn end_of_terms(r: usize) -> usize
-    ensures { λ n. ⌜ n ≡ 49 - (48 - r) ⌝ }
-{
-    if r < COEFFICIENTS {
-        return r + 1;
-    }
-    COEFFICIENTS
-}
-
-// Coefficient r of the product.
-pub fn convolve(f: [Gf; COEFFICIENTS], s: [Gf; SYNDROMES], r: usize) -> Gf
-    ensures { λ d. ⌜ val d ≡ (poly f ⊠ row s) r ⌝ }
-{
-    let end = end_of_terms(r);
-    let mut d = Gf::ZERO;
-    let mut i: usize = first_term(r);
-    while i < end {
-        let p = f[i].product(s[r - i]);
-        d = d.sum(p);
-        i = i + 1;
-    }
-    d
 }

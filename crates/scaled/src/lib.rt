@@ -10,7 +10,7 @@ ghost use Rattle.iteration.specs.Length.{k-of};
 ghost use Rattle.iteration.specs.Scaled.{unless, ratio as Ratio, holding as Holding, start as Start, enter as Enter, iterate as Iterate};
 ghost use Rattle.scaled.specs.View.{scaled, clip-scaled, Products-of, stepped};
 use field::Gf;
-use polynomial::coefficient;
+use syndromes::coefficient;
 
 // Λ, B, γ', the length L, Δ and Θ. After r iterations k is r - 2L, and the scalars are held for iteration r: with d the constant term of Δ,
 // g = S'_(r+1)/S'_r, ρ is γ' or 1 if d = 0, ξ is d, ρ_S is gρ and ξ_S is gξ.
@@ -60,7 +60,7 @@ fn sum_unless(x: Gf, t: [Gf; 49], f: [Gf; 49]) -> [Gf; 49]
 fn scale_shifted(a: Gf, f: [Gf; 49]) -> [Gf; 49]
     ensures { λ r. ⌜ poly r ≡ cut 49 (K (val a) ⊠ (Z ⊠ poly f)) ⌝ }
 {
-    let zf = polynomial::times_z(f);
+    let zf = shift::times_z(f);
     polynomial::scale(a, zf)
 }
 
@@ -192,7 +192,7 @@ impl Scaled {
         Products {
             locator: polynomial::scale(self.rho_s, f),
             auxiliary: scale_shifted(self.xi_s, b),
-            delta: polynomial::scale(self.rho, polynomial::over_z(delta)),
+            delta: polynomial::scale(self.rho, shift::over_z(delta)),
             theta: polynomial::scale(self.xi, theta),
         }
     }

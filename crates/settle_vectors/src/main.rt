@@ -5,14 +5,13 @@
 // `stdout` holds the same lines from an independent model.
 //
 // A case on standard input is a byte with t, one with n, and 2t syndromes.
-mod print;
-
 ghost use Prim.Native.Nat.{_≤_, _<_};
 ghost use lib.ListN.{length};
 use field::Gf;
 use solver::Form;
 use solver::Solver;
 use subword::Settled;
+use text::print;
 
 // The syndromes, then zeros.
 fn row(syndromes: &[u8]) -> [Gf; 48]
@@ -51,6 +50,22 @@ fn settle(form: Form, syndromes: &[u8], n: usize, t: usize) -> Settled
     subword::settle(locator(s), s.length() as usize, row(syndromes), n, t)
 }
 
+fn change(position: usize, y: Gf) {
+    if !y.is_zero() {
+        print::number(position);
+        print::value(y);
+    }
+}
+
+// The positions that change, each with its change.
+fn changes(pattern: [Gf; 255]) {
+    let mut i: usize = 0;
+    while i < 255 {
+        change(i, pattern[i]);
+        i = i + 1;
+    }
+}
+
 fn show(r: Settled) {
     if r.found {
         print::text(b" | settled");
@@ -60,7 +75,7 @@ fn show(r: Settled) {
     print::number(r.count as usize);
     print::text(b" |");
     let pattern = r.pattern;
-    print::changes(pattern);
+    changes(pattern);
     print::text(b"\n");
 }
 

@@ -19,9 +19,10 @@ use Rattle.continuation.specs.Definition.{Ended, ended-start}
 use Rattle.staged.specs.Definition as staged
 use Rattle.staged.specs.Definition.{put}
 use Rattle.staged.specs.Stage.{put-same, put-other}
-use Rattle.stages.specs.declared.Verdict.the-variants.{Clean}
-use Rattle.stages.specs.declared.Line.{Line}
-use Rattle.stages.specs.View.{verdict-of, says, Has, shown, Started}
+use Rattle.turn.specs.declared.Verdict.the-variants.{Clean}
+use Rattle.turn.specs.declared.Line.{Line}
+use Rattle.turn.specs.Definition.{verdict-of}
+use Rattle.stages.specs.View.{says, Has, shown, Started}
 
 -- ---- places of a list
 

@@ -29,11 +29,12 @@ use Rattle.continuation.specs.Definition.{Ended}
 use Rattle.staged.specs.Definition as staged
 use Rattle.staged.specs.Definition.{Progress, each, step, stage}
 use Rattle.staged.specs.Stage.{progress-equal, each-none, each-more, put-same, put-other, found-open, found-settled, step-none, step-some}
-use Rattle.stages.specs.declared.Line.{Line}
-use Rattle.stages.specs.declared.Turned.{Turned}
-use Rattle.stages.specs.declared.Staged.{Staged}
 use Rattle.attempt.specs.Definition.{Ready}
-use Rattle.stages.specs.View.{verdict-of, says, Has, shown, view, so-far, Kept, Before, Took, Stayed, Came}
+use Rattle.turn.specs.declared.Line.{Line}
+use Rattle.turn.specs.declared.Turned.{Turned}
+use Rattle.turn.specs.Definition.{verdict-of, Took, Stayed}
+use Rattle.stages.specs.declared.Staged.{Staged}
+use Rattle.stages.specs.View.{says, Has, shown, view, so-far, Kept, Before, Came}
 use Rattle.stages.specs.Lines.{any-default, has, has-same, has-other, says-at, says-other, shown-set, put-stay}
 
 abbrev pub next : (r k i : ℕ) → ℕ

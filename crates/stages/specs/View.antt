@@ -1,6 +1,5 @@
 -- How the code's values show staged decoding (Definition of staged).
 --
---   verdict-of v              what a verdict says
 --   says lines i              what line i says; clean where there is no such line
 --   view b pending lines t    the progress that a block, flags, lines and a table of syndromes show
 --   waiting p pending         how many subwords are pending
@@ -8,14 +7,12 @@
 --   so-far p i s S o          the rounds that a solver went through, o being what its subword's line is and s the next stage if it has none
 --   Kept p f next g lines     the solvers of the lines are in the form f at the end of these rounds; the lines that are no subword's say clean
 --   Before p f r g lines      so it is before stage r, and the rows are zero past that stage's syndromes
---   Took p f r i S w b c q    what stage r makes of subword i that was pending, w being the pattern that settles it, if any
 --   Started f lines           eight lines at their start
 --   Came p f r g b q t        after stage r of the progress g
 --   Extended p r b q t u      u is the table t after round r + 1
 --   Reached p f y b e         how decoding ended
 use Prim.Native.Nat.{ℕ, suc, _*_, _≤_, _<_}
 use mathlib.Core.Path.{_≡_}
-use mathlib.Core.Logic.{_≢_}
 use mathlib.Core.Bool.{Bool, true, false, cond}
 use mathlib.Core.List.{List, [], map}
 use mathlib.Core.Option.{Option, none, some}
@@ -25,30 +22,22 @@ use Rattle.field.specs.declared.Gf.{Gf}
 use Rattle.field.specs.Field.{F}
 use Rattle.series.specs.Series.{Series}
 use Rattle.series.specs.Degree.{below}
-use Rattle.series.specs.Array.{bytes, values}
-use Rattle.series.specs.Word.{entry, weight}
+use Rattle.series.specs.Array.{bytes}
 use Rattle.profile.specs.declared.Profile.{Profile}
 use Rattle.profile.specs.Definition.{capability}
 use Rattle.code.specs.Check.{table}
 use Rattle.solver.specs.declared.Form.{Form}
 use Rattle.continuation.specs.Definition.{Ended}
 use Rattle.staged.specs.Definition as staged
-use Rattle.staged.specs.Definition.{Progress, count, add, line-of, line-at, line-rounds, rounds-of, stage, round, start, stages, settled, stopped}
-use Rattle.stages.specs.declared.Verdict.{Verdict}
-use Rattle.stages.specs.declared.Verdict.the-variants.{Clean, Corrected}
-use Rattle.stages.specs.declared.Line.{Line}
-use Rattle.stages.specs.declared.Turned.{Turned}
+use Rattle.staged.specs.Definition.{Progress, count, line-at, line-rounds, stage, round, start, stages, settled, stopped}
+use Rattle.attempt.specs.Definition.{earlier}
+use Rattle.lagrange.specs.Definition.{flag}
+use Rattle.turn.specs.declared.Line.{Line}
+use Rattle.turn.specs.Definition.{verdict-of}
 use Rattle.stages.specs.declared.Staged.{Staged}
 use Rattle.stages.specs.declared.Ending.{Ending}
-use Rattle.attempt.specs.declared.Attempted.{Attempted}
-use Rattle.attempt.specs.Definition.{earlier}
-use Rattle.extension.specs.Definition.{flag}
 
 -- ---- lines
-
-abbrev pub verdict-of : Verdict → staged.Line
-verdict-of Clean = staged.clean
-verdict-of (Corrected k r) = staged.corrected k r
 
 unfoldable pub says : List Line → ℕ → staged.Line
 says lines i = getD (map (λ l. verdict-of (l .verdict)) lines) i staged.clean
@@ -83,23 +72,7 @@ pub record Before (p : Profile) (f : Form) (r : ℕ) (g : Progress) (lines : Lis
 
 -- ---- a stage
 
--- what an attempt has brought: with no change at stage 0 there would have been no attempt
-pub record Offered (p : Profile) (f : Form) (r : ℕ) (S : Series) (a : Attempted) : Type 0 where
-  pub count : a .settled .count ≡ weight (p .length) (values (a .settled .pattern))
-  pub solver : Ended f (rounds-of p S r) (a .solver)
-  pub some : a .settled .found ≡ true → r ≡ 0 → a .settled .count ≢ 0
-
-abbrev pub Stayed : Line → (b c : List ℕ) → Turned → Type 0
-Stayed line b c q = (q .pending ≡ false) × (q .line ≡ line) × (c ≡ b)
-
--- of one subword; b and c are the block before and after
-abbrev pub Took : Profile → Form → (r i : ℕ) → Series → Option (List F) → (b c : Series) → Turned → Type 0
-Took p f r i S none b c q = (q .pending ≡ true) × (c ≡ b) × Ended f (rounds-of p S r) (q .line .solver)
-Took p f r i S (some w) b c q =
-    (q .pending ≡ false) × (c ≡ add (p .length) i (entry w) b) × (verdict-of (q .line .verdict) ≡ line-of r (weight (p .length) (entry w)))
-    × Ended f (line-rounds p S (line-of r (weight (p .length) (entry w)))) (q .line .solver)
-
--- of all of them, with the flags and lines q and the table t
+-- of all subwords, with the flags and lines q and the table t
 pub record Came (p : Profile) (f : Form) (r : ℕ) (g : Progress) (b : List ℕ) (q : Staged) (t : List (List Gf)) : Type 0 where
   pub is : view b (q .pending) (q .lines) t ≡ stage p r g
   pub kept : Kept p f (λ _. suc r) (stage p r g) (q .lines)

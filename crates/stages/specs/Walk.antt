@@ -36,8 +36,9 @@ use Rattle.staged.specs.Stage.{progress-equal}
 use Rattle.staged.specs.Round.{extend-open, extend-settled, extend-low, window-high}
 use Rattle.staged.specs.Rounds.{rounds-cong}
 use Rattle.staged.specs.Course.{stages-over, stages-stop, stages-on}
-use Rattle.extension.specs.Definition.{flag, Seen}
-use Rattle.stages.specs.declared.Line.{Line}
+use Rattle.lagrange.specs.Definition.{flag}
+use Rattle.extension.specs.Definition.{Seen}
+use Rattle.turn.specs.declared.Line.{Line}
 use Rattle.stages.specs.declared.Staged.{Staged}
 use Rattle.stages.specs.View.{says, Has, shown, view, waiting, so-far, Kept, Before, Came, Started, Shows, Reached}
 use Rattle.stages.specs.Lines.{any-default}

@@ -2,48 +2,21 @@
 // specs/Definition.antt; how the values here show it, in specs/View.antt.
 ghost use Prim.Native.Nat.{_-_, _≤_, _<_};
 ghost use mathlib.Core.Path.{_≡_};
-ghost use mathlib.Core.Bool.{true, false, _&&_};
-ghost use lib.Dec.{leb, eqb};
+ghost use mathlib.Core.Bool.{_&&_};
+ghost use lib.Dec.{leb};
 ghost use lib.ListN.{length};
-ghost use Rattle.series.specs.Series.{Series};
-ghost use Rattle.series.specs.Shift.{cut};
-ghost use Rattle.series.specs.Array.{bytes, values};
-ghost use Rattle.series.specs.Decide.{holds};
-ghost use Rattle.polynomial.specs.Polynomial.{row as Row};
-ghost use Rattle.profile.specs.Definition.{capability};
+ghost use Rattle.series.specs.Array.{bytes};
 ghost use Rattle.profile.specs.Valid.{Valid};
 ghost use Rattle.code.specs.Check.{Fits};
-ghost use Rattle.settle.specs.Definition.{settle as Settle};
-ghost use Rattle.subword.specs.Answer.{answer};
-ghost use Rattle.staged.specs.Definition.{add, line-of};
-ghost use Rattle.attempt.specs.Definition.{Ready};
-ghost use Rattle.attempt.specs.Zero.{zero?};
-ghost use Rattle.stages.specs.View.{verdict-of, view, waiting, Offered, Took, Stayed, Before, Came, Started, Extended, Reached};
-use attempt::Attempted;
+ghost use Rattle.stages.specs.View.{view, waiting, Before, Came, Started, Extended, Reached};
 use code::SUBWORDS;
 use field::Gf;
 use polynomial::SYNDROMES;
 use profile::Profile;
 use solver::Form;
 use solver::Solver;
-
-// Document 01's clean, or mended with its count and stage.
-pub enum Verdict {
-    Clean,
-    Corrected(u8, u8),
-}
-
-// A subword's line in the report, with the last state of its solver: at its start if the subword is clean.
-pub struct Line {
-    pub verdict: Verdict,
-    pub solver: Solver,
-}
-
-// A subword after a stage. The verdict of one that is pending, not settled yet, says nothing.
-struct Turned {
-    pending: bool,
-    line: Line,
-}
+use turn::Line;
+use turn::Verdict;
 
 // All subwords after a stage.
 struct Staged {
@@ -56,107 +29,6 @@ pub struct Ending {
     pub settled: bool,
     pub stage: u8,
     pub lines: [Line; SUBWORDS],
-}
-
-// Settled at stage r by so many changes.
-fn verdict_of(r: u8, count: u8) -> Verdict
-    ensures { λ v. ⌜ verdict-of v ≡ line-of r count ⌝ }
-{
-    if r == 0 {
-        if count == 0 {
-            return Verdict::Clean;
-        }
-    }
-    Verdict::Corrected(count, r)
-}
-
-// The pattern is added to subword i.
-fn correct(p: Profile, i: usize, pattern: [Gf; 255], block: &mut [u8])
-    requires { ⌜ Fits p (now block) × (i < p .subwords) ⌝ }
-    ensures { λ _. ⌜ bytes (now (block .exit)) ≡ add (p .length) i (cut (p .length) (values pattern)) (bytes (now (block .entry))) ⌝ }
-{
-    let n = p.length as usize;
-    let a = i * n;
-    let mut q: usize = 0;
-    while q < n {
-        let e = pattern[q];
-        block[a + q] = block[a + q] ^ e.0;
-        q = q + 1;
-    }
-}
-
-// What an attempt has brought is taken: the block is corrected if the subword is settled.
-fn take(p: Profile, r: u8, i: usize, a: Attempted, block: &mut [u8]) -> Turned
-    requires { ⌜ Fits p (now block) × (i < p .subwords) ⌝ }
-    ensures { λ q. ⌜ ((f : Form) (S : Series) → Offered p f r S a
-        → Took p f r i S (answer (p .length) (a .settled)) (bytes (now (block .entry))) (bytes (now (block .exit))) q) ⌝ }
-{
-    let s = a.solver;
-    let w = a.settled;
-    if !w.found {
-        return Turned {
-            pending: true,
-            line: Line {
-                verdict: Verdict::Clean,
-                solver: s,
-            },
-        };
-    }
-    let pattern = w.pattern;
-    correct(p, i, pattern, block);
-    let v = verdict_of(r, w.count);
-    Turned {
-        pending: false,
-        line: Line {
-            verdict: v,
-            solver: s,
-        },
-    }
-}
-
-// Whether a subword is clean, which shows at stage 0.
-fn is_clean(r: u8, row: [Gf; SYNDROMES]) -> bool
-    ensures { λ b. ⌜ b ≡ (eqb r 0 && holds (zero? row)) ⌝ }
-{
-    if r != 0 {
-        return false;
-    }
-    attempt::is_zero(row)
-}
-
-// Stage r of subword i. A clean subword runs no solver; one that is settled stays as it is.
-fn turn(
-    p: Profile,
-    r: u8,
-    i: usize,
-    pending: bool,
-    line: Line,
-    row: [Gf; SYNDROMES],
-    block: &mut [u8],
-) -> Turned
-    requires { ⌜ Fits p (now block) × (i < p .subwords) × (r ≤ p .nested) ⌝ }
-    ensures settled { λ q. ⌜ (pending ≡ false → Stayed line (now (block .entry)) (now (block .exit)) q) ⌝ }
-    ensures pending { λ q. ⌜ (pending ≡ true → (f : Form) → Ready p f r (Row row) (line .solver)
-        → Took p f r i (Row row) (Settle (capability p r) (p .length) (Row row)) (bytes (now (block .entry))) (bytes (now (block .exit))) q) ⌝ }
-{
-    if !pending {
-        return Turned {
-            pending: false,
-            line: line,
-        };
-    }
-    let s = line.solver;
-    if is_clean(r, row) {
-        return Turned {
-            pending: false,
-            line: Line {
-                verdict: Verdict::Clean,
-                solver: s,
-            },
-        };
-    }
-    let a = attempt::attempt(p, r, s, row);
-    take(p, r, i, a, block)
 }
 
 // Stage r of every subword.
@@ -178,7 +50,7 @@ fn stage(
     let mut done = lines;
     let mut i: usize = 0;
     while i < m {
-        let t = turn(p, r, i, flags[i], done[i], table[i], block);
+        let t = turn::turn(p, r, i, flags[i], done[i], table[i], block);
         flags[i] = t.pending;
         let l = t.line;
         done[i] = l;
@@ -211,7 +83,7 @@ fn follows(p: Profile, r: u8, pending: [bool; SUBWORDS]) -> bool
     requires { ⌜ Valid p × (r ≤ p .nested) ⌝ }
     ensures { λ b. ⌜ b ≡ (leb 1 (waiting p pending) && leb (waiting p pending) (p .nested - r)) ⌝ }
 {
-    let b = extension::unsettled(p, pending);
+    let b = lagrange::unsettled(p, pending);
     if b == 0 {
         return false;
     }
@@ -249,7 +121,7 @@ pub fn run(p: Profile, form: Form, block: &mut [u8]) -> Ending
         lines = s.lines;
     }
     Ending {
-        settled: extension::unsettled(p, pending) == 0,
+        settled: lagrange::unsettled(p, pending) == 0,
         stage: r,
         lines: lines,
     }

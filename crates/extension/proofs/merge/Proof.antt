@@ -6,7 +6,7 @@ use lib.ListN.{length}
 use Rattle.series.specs.Shift.{cut}
 use Rattle.series.specs.Array.{bytes}
 use Rattle.code.specs.Combined.{combined, combined-none, combined-more}
-use Rattle.extension.specs.Definition.{flag, lagrange}
+use Rattle.lagrange.specs.Definition.{flag, lagrange}
 use borrow.Author.Needs.{needs}
 use Rattle.extension.proofs.merge.Statement.{statement}
 use Rattle.extension.proofs.merge.Tie as tie

@@ -1,0 +1,2 @@
+-- What `write_subword` promises of, and its proof.
+pub mod Subword

@@ -1,0 +1,50 @@
+// Polynomials of 49 coefficients whose terms are moved or left out: times z, over z, the odd part.
+ghost use mathlib.Core.Path.{_≡_};
+ghost use Rattle.series.specs.Series.{Z, _⊠_, tail};
+ghost use Rattle.series.specs.Shift.{cut};
+ghost use Rattle.series.specs.Value.{odd};
+ghost use Rattle.polynomial.specs.Polynomial.{poly};
+use field::Gf;
+use polynomial::COEFFICIENTS;
+
+// The highest degree.
+const DEGREE: usize = COEFFICIENTS - 1;
+
+// The top coefficient is lost.
+pub fn times_z(f: [Gf; COEFFICIENTS]) -> [Gf; COEFFICIENTS]
+    ensures { λ r. ⌜ poly r ≡ cut 49 (Z ⊠ poly f) ⌝ }
+{
+    let mut out = [Gf::ZERO; COEFFICIENTS];
+    let mut i: usize = 0;
+    while i < DEGREE {
+        out[i + 1] = f[i];
+        i = i + 1;
+    }
+    out
+}
+
+// The constant term is lost.
+pub fn over_z(f: [Gf; COEFFICIENTS]) -> [Gf; COEFFICIENTS]
+    ensures { λ r. ⌜ poly r ≡ tail (poly f) ⌝ }
+{
+    let mut out = [Gf::ZERO; COEFFICIENTS];
+    let mut i: usize = 0;
+    while i < DEGREE {
+        out[i] = f[i + 1];
+        i = i + 1;
+    }
+    out
+}
+
+// The terms of odd degree; the others stay zero.
+pub fn odd_part(f: [Gf; COEFFICIENTS]) -> [Gf; COEFFICIENTS]
+    ensures { λ r. ⌜ poly r ≡ odd (poly f) ⌝ }
+{
+    let mut out = [Gf::ZERO; COEFFICIENTS];
+    let mut i: usize = 1;
+    while i < COEFFICIENTS {
+        out[i] = f[i];
+        i = i + 2;
+    }
+    out
+}

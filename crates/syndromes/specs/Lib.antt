@@ -1,0 +1,3 @@
+-- Zero is what `is_zero` promises of; Partial proves `convolve`.
+pub mod Zero
+pub mod Partial

@@ -1,0 +1,3 @@
+-- Definition is what the promises speak of; Turn proves them.
+pub mod Definition
+pub mod Turn
