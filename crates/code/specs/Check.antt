@@ -7,8 +7,8 @@
 --   sums p s w       the m words that a codeword has to be checked for: the nested words, then the subwords from v on
 --   Vanish p s w     the syndromes below `checks p w` of word w are zero
 --
--- Proved: a block of a valid profile is a codeword exactly if all m words vanish (codeword-sums, sums-codeword); a word does exactly if its remainder is
--- zero (vanish-zeros, zeros-vanish). So the check may end at the first symbol that is not (check-passes, check-fails).
+-- Proved: a block of a valid profile is a codeword exactly if all m words vanish (codeword-sums, sums-codeword); a word's syndromes are those of its remainder
+-- (word-syndrome, zeros-vanish). So the check may end at the first that is not zero (check-passes, check-fails).
 use Prim.Native.Nat.{ℕ, zero, suc, _+_, _*_, _≤_, _<_}
 use mathlib.Core.Path.{_≡_, sym, ap, _∙_, fun-ext}
 use mathlib.Core.Logic.{_≢_}
@@ -22,20 +22,21 @@ use lib.ListN.{length, getD, set, take, drop, replicate, length-drop}
 use lib.Seq.{getD-set-same, getD-set-other, length-take-le}
 use borrow.Author.Tests.{lt-ltb, le-ltb}
 use Rattle.field.specs.declared.Gf.{Gf}
-use Rattle.field.specs.Field.{𝟎, of, of-zero, of-nonzero, val, val-zero}
-use Rattle.series.specs.Series.{Series, O}
+use Rattle.field.specs.Field.{𝟎, of, val, val-zero}
+use Rattle.series.specs.Series.{Series, O, O-at}
 use Rattle.series.specs.Shift.{cut, cut-none, cut-low}
 use Rattle.series.specs.Degree.{below-O, below-cut-eq}
 use Rattle.series.specs.Decide.{holds, holds-yes, holds-no}
-use Rattle.series.specs.Array.{bytes, read-at, read-zeros}
+use Rattle.series.specs.Array.{bytes, read-zeros}
 use Rattle.series.specs.Part.{read-take}
+use Rattle.series.specs.Value.{value-more, value-zero}
 use Rattle.polynomial.specs.Polynomial.{row, row-zeros}
 use Rattle.profile.specs.declared.Profile.{Profile}
 use Rattle.profile.specs.Definition.{checks, block-size}
 use Rattle.profile.specs.Valid.{Valid, checks-is, checks-high, checks-most, checks-room}
-use Rattle.reed_solomon.specs.Definition.{syndrome}
-use Rattle.reed_solomon.specs.Systematic.{syndrome-cong}
-use Rattle.reed_solomon.specs.Residue.{residue, residue-cong, residue-none, residue-zero}
+use Rattle.reed_solomon.specs.Definition.{root, syndrome}
+use Rattle.reed_solomon.specs.Systematic.{syndrome-is, syndrome-cong}
+use Rattle.reed_solomon.specs.Residue.{residue, below-residue, residue-cong, residue-syndrome}
 use Rattle.code.specs.Definition.{subword, nested, Codeword}
 use Rattle.code.specs.Encoding.{codeword?}
 use Rattle.code.specs.Triangle.{checked-triangle, triangle-codeword}
@@ -125,19 +126,20 @@ module _ (p : Profile) (s : Series) where
       room : k ≤ p .length
       room = omega (arith, count, checks-room p ok w)
 
-      at : (i : ℕ) → residue (p .length) k (sums p s w) i ≡ of (getD r i 0)
-      at i = ap (λ (f : Series). f i) (sym is) ∙ read-at of 0 r i
+      -- a syndrome of the remainder is the word's
+      pub word-syndrome : (j : ℕ) → j < k → k ≤ length r → syndrome (length r) (bytes r) j ≡ syndrome (p .length) (sums p s w) j
+      word-syndrome j h long =
+          ap (λ (f : Series). syndrome (length r) f j) is
+          ∙ syndrome-is (length r) _ j
+          ∙ value-more k (length r) _ (root j) (below-residue (p .length) k (sums p s w)) long
+          ∙ residue-syndrome (p .length) k (sums p s w) small room j h
 
-      pub zeros-vanish : ((i : ℕ) → i < k → getD r i 0 ≡ 0) → Vanish p s w
-      zeros-vanish z j h =
-          residue-none (p .length) k (sums p s w) small room (λ i l. at i ∙ ap of (z i l) ∙ of-zero) j (omega (arith, count))
+      pub zeros-vanish : k ≤ length r → ((j : ℕ) → j < k → syndrome (length r) (bytes r) j ≡ 𝟎) → Vanish p s w
+      zeros-vanish long z j h = sym (word-syndrome j (omega (arith, count)) long) ∙ z j (omega (arith, count))
 
-      pub vanish-zeros : Vanish p s w → (i : ℕ) → i < k → of (getD r i 0) ≡ 𝟎
-      vanish-zeros v i h = sym (at i) ∙ residue-zero (p .length) k (sums p s w) small room (λ j l. v j (omega (arith, count))) i h
-
-      pub check-fails : (j : ℕ) → w < p .subwords → j < k → getD r j 0 ≢ 0 → getD r j 0 < 256 → false ≡ holds (codeword? p s)
-      check-fails j h l n b =
-          sym (holds-no (codeword? p s) (λ c. of-nonzero (getD r j 0) b n (vanish-zeros (codeword-sums c w h) j l)))
+      pub check-fails : (j : ℕ) → w < p .subwords → j < k → k ≤ length r → syndrome (length r) (bytes r) j ≢ 𝟎 → false ≡ holds (codeword? p s)
+      check-fails j h l long n =
+          sym (holds-no (codeword? p s) (λ c. n (word-syndrome j l long ∙ codeword-sums c w h j (omega (arith, count)))))
 
     pub check-passes : ((w : ℕ) → w < p .subwords → Vanish p s w) → true ≡ holds (codeword? p s)
     check-passes h = sym (holds-yes (codeword? p s) (sums-codeword h))
@@ -178,3 +180,8 @@ pub part-residue : (n i k : ℕ) (b : List ℕ) (r : ℕ) → r ≤ n → k ≡ 
     → residue (length (take k (drop (i * n) b))) r (bytes (take k (drop (i * n) b))) ≡ residue n r (subword n (bytes b) i)
 part-residue n i k b r room e h =
     ap (λ l. residue l r (bytes (take k (drop (i * n) b)))) (part-length n i k b e h) ∙ residue-cong n r _ _ room (part-at n i k b e h)
+
+-- ---- a remainder of which no syndrome is looked at
+
+pub none-looked : (r : List ℕ) (j : ℕ) → bytes r ≡ O → syndrome (length r) (bytes r) j ≡ 𝟎
+none-looked r j z = ap (λ (f : Series). syndrome (length r) f j) z ∙ syndrome-is (length r) O j ∙ value-zero (length r) O (root j) (λ i _. O-at i)

@@ -1,12 +1,13 @@
 // Codewords of a profile: syndromes of a block, nested words, the codeword check.
-ghost use Prim.Native.Nat.{_≤_, _<_};
+ghost use Prim.Native.Nat.{ℕ, _≤_, _<_};
 ghost use mathlib.Core.Path.{_≡_};
 ghost use lib.ListN.{length};
-ghost use Rattle.field.specs.Field.{α, pow, val};
+ghost use Rattle.field.specs.Field.{𝟎, α, pow, val};
 ghost use Rattle.series.specs.Series.{O, K, _⊞_, _⊠_};
 ghost use Rattle.series.specs.Shift.{cut};
 ghost use Rattle.series.specs.Array.{bytes};
 ghost use Rattle.series.specs.Decide.{holds};
+ghost use Rattle.reed_solomon.specs.Definition.{syndrome as Syndrome};
 ghost use Rattle.reed_solomon.specs.Encoder.{Table};
 ghost use Rattle.reed_solomon.specs.Residue.{residue as Residue};
 ghost use Rattle.code.specs.Definition.{subword, nested as Nested};
@@ -128,8 +129,19 @@ fn residue_of(p: Profile, t: &[u64], k: usize, block: &[u8], w: usize) -> [u8; S
     reed_solomon::residue(t, k, &block[a..e])
 }
 
-// Whether the block is a codeword: m words and the symbols of their remainders are walked up to the first that is not zero.
-// A table is made for each number of check symbols.
+// How many syndromes of a remainder are looked at: none if it is zero, else all k.
+fn looked_at(r: &[u8], k: usize) -> usize
+    ensures most { λ l. ⌜ l ≤ k ⌝ }
+    ensures others { λ l. ⌜ ((j : ℕ) → l ≤ j → j < k → Syndrome (length (now (r .entry))) (bytes (now (r .entry))) j ≡ 𝟎) ⌝ }
+{
+    if reed_solomon::is_zero(r) {
+        return 0;
+    }
+    k
+}
+
+// Whether the block is a codeword: m words and their syndromes are walked up to the first that is not zero. The syndromes are those of a word's remainder,
+// and a table for remainders is made for each number of check symbols.
 pub fn is_codeword(p: Profile, block: &[u8]) -> bool
     requires { ⌜ Fits p (now block) ⌝ }
     ensures { λ r. ⌜ r ≡ holds (codeword? p (bytes (now (block .entry)))) ⌝ }
@@ -144,9 +156,11 @@ pub fn is_codeword(p: Profile, block: &[u8]) -> bool
         reed_solomon::prepare(&mut t, made, k);
         made = k;
         let r = residue_of(p, &t, k, block, w);
+        let looked = looked_at(&r, k);
         let mut j: usize = 0;
-        while j < k {
-            if r[j] != 0 {
+        while j < looked {
+            let s = reed_solomon::syndrome(&r, j);
+            if !s.is_zero() {
                 clean = false;
                 break 'words;
             }

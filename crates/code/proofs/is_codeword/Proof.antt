@@ -1,24 +1,29 @@
--- All words before w vanish, and the first j symbols of the remainder of word w are zero.
+-- All words before w vanish, and the first j syndromes of word w are zero.
 use Prim.Native.Nat.{ℕ, _-_, _≤_, _<_}
-use mathlib.Core.Path.{_≡_, refl, _∙_}
+use mathlib.Core.Path.{_≡_, refl, sym, _∙_}
+use mathlib.Core.Logic.{by-cases}
 use mathlib.Core.Bool.{true}
+use native.Mathlib.Decide.{decLt}
 use native.Mathlib.Omega.{arith}
-use lib.ListN.{getD}
+use lib.ListN.{length}
 use borrow.Author.Count.{below-none, below-more}
+use Rattle.field.specs.Field.{𝟎, isZero-true, isZero-false}
 use Rattle.series.specs.Array.{bytes}
+use Rattle.profile.specs.Laws.{unless, meets}
 use Rattle.profile.specs.Valid.{checks-some, checks-most, checks-room}
+use Rattle.reed_solomon.specs.Definition.{syndrome}
 use Rattle.reed_solomon.specs.Made.{Made}
 use Rattle.code.specs.Check.{Vanish, zeros-vanish, check-passes, check-fails}
-use mir.Syntax.{w8}
-use borrow.Author.Needs.{needs, elem-fits}
+use borrow.Author.Needs.{needs}
 use Rattle.code.proofs.is_codeword.Statement.{statement}
 use Rattle.code.proofs.is_codeword.Tie as tie
 
 abbrev Inv-loop : tie.InvT-loop
-Inv-loop p block m t made clean₀ w k r j₀ clean j = (j ≤ k) × (clean ≡ true) × ((i : ℕ) → i < j → getD r i 0 ≡ 0)
+Inv-loop p block m t made clean₀ w k r looked j₀ clean j =
+    (j ≤ looked) × (clean ≡ true) × ((i : ℕ) → i < j → syndrome (length r) (bytes r) i ≡ 𝟎)
 
 abbrev μ-loop : tie.MeasureT-loop
-μ-loop p block m t made clean₀ w k r j₀ clean j = k - j
+μ-loop p block m t made clean₀ w k r looked j₀ clean j = looked - j
 
 abbrev Inv-words : tie.InvT-words
 Inv-words p block m t₀ made₀ clean₀ w₀ t made clean w =
@@ -76,16 +81,26 @@ residue-of-requires c κs =
       c .before .before .before .before .before .words-test .taken,
     )
 
-loop-holds : tie.Need-loop-holds Inv-loop μ-loop Inv-words μ-words
-loop-holds c = (search needs, c .before .before .before .before .before .before .before .words .inv .1, below-none _)
+slice-aggregate-looked-at : tie.Need-slice-aggregate-looked-at Inv-loop μ-loop Inv-words μ-words
+slice-aggregate-looked-at c = search needs
 
-array-read-if1 : tie.Need-array-read-if1 Inv-loop μ-loop Inv-words μ-words
-array-read-if1 c =
-    let given = c .before .before .before .before .before .before .before .before .before .before .before .before .before in
-    let k = c .before .before .before .before .before .before .before .checks .ensures in
-    let w = c .before .before .before .before .before .before .before .before .before .words .w in
-    let most = checks-most (given .args .p) (given .pre .valid) w in
-    search (needs, k, most)
+looked-at-requires : tie.Need-looked-at-requires Inv-loop μ-loop Inv-words μ-words
+looked-at-requires c κs = search needs
+
+loop-holds : tie.Need-loop-holds Inv-loop μ-loop Inv-words μ-words
+loop-holds c = (search needs, c .before .before .before .before .before .before .before .before .before .words .inv .1, below-none _)
+
+slice-aggregate-syndrome : tie.Need-slice-aggregate-syndrome Inv-loop μ-loop Inv-words μ-words
+slice-aggregate-syndrome c = search needs
+
+syndrome-requires : tie.Need-syndrome-requires Inv-loop μ-loop Inv-words μ-words
+syndrome-requires c κs =
+    let given = c .before .before .before .before .before .before .before .before .before .before .before .before .before .before .before .before in
+    let w = c .before .before .before .before .before .before .before .before .before .before .before .before .words .w in
+    omega (arith, c .before .loop-test .taken, c .before .before .before .looked-at .ensures .0, c .before .before .before .before .before .before .before .before .before .before .checks .ensures, checks-most (given .args .p) (given .pre .valid) w)
+
+is-zero-requires : tie.Need-is-zero-requires Inv-loop μ-loop Inv-words μ-words
+is-zero-requires c κs = search needs
 
 add-j : tie.Need-add-j Inv-loop μ-loop Inv-words μ-words
 add-j c = search needs
@@ -95,8 +110,9 @@ loop-less c = search needs
 
 loop-again : tie.Need-loop-again Inv-loop μ-loop Inv-words μ-words
 loop-again c =
-    let now = c .before .before .loop in
-    (omega (arith, c .before .loop-test .taken), now .inv .1, below-more _ (now .j) (now .inv .2) (c .if1 .left))
+    let now = c .before .before .before .before .before .loop in
+    let zero = isZero-true _ (sym (c .before .is-zero .ensures) ∙ meets _ (c .if1 .left)) in
+    (omega (arith, c .before .before .before .before .loop-test .taken), now .inv .1, below-more _ (now .j) (now .inv .2) (sym (c .before .before .syndrome .ensures) ∙ zero))
 
 add-w : tie.Need-add-w Inv-loop μ-loop Inv-words μ-words
 add-w c = search needs
@@ -107,16 +123,20 @@ words-less c = search needs
 words-again : tie.Need-words-again Inv-loop μ-loop Inv-words μ-words
 words-again c =
     let end = c .before .loop in
-    let residue = c .before .before .residue-of in
-    let checks = c .before .before .before .before .before .before .before .checks .ensures in
-    let now = c .before .before .before .before .before .before .before .before .before .words in
-    let given = c .before .before .before .before .before .before .before .before .before .before .before .before .before in
+    let looked = c .before .before .looked-at .ensures in
+    let residue = c .before .before .before .before .residue-of in
+    let checks = c .before .before .before .before .before .before .before .before .before .checks .ensures in
+    let now = c .before .before .before .before .before .before .before .before .before .before .before .words in
+    let given = c .before .before .before .before .before .before .before .before .before .before .before .before .before .before .before in
     let p = given .args .p in
     let s = bytes (given .args .block .now) in
-    let here = zeros-vanish p s (given .pre .valid) (now .w) _ (residue .result) checks (residue .ensures) (λ i h. end .inv .2 i (omega (arith, c .loop-test .left))) in (
-      omega (arith, c .before .before .before .before .before .before .before .before .words-test .taken),
+    let long : length (residue .result) ≡ 48 = search needs in
+    let here = zeros-vanish p s (given .pre .valid) (now .w) _ (residue .result) checks (residue .ensures)
+    (omega (arith, long, checks, checks-most p (given .pre .valid) (now .w)))
+    (λ j h. by-cases (decLt j (c .before .before .looked-at .result)) (λ l. end .inv .2 j (omega (arith, l, c .loop-test .left))) (λ l. looked .1 j (omega arith) h)) in (
+      omega (arith, c .before .before .before .before .before .before .before .before .before .before .words-test .taken),
       end .inv .1,
-      record { size = search needs; table = λ _. c .before .before .before .before .before .prepare .ensures },
+      record { size = search needs; table = λ _. c .before .before .before .before .before .before .before .prepare .ensures },
       below-more (Vanish p s) (now .w) (now .inv .3) here,
     )
 
@@ -128,12 +148,16 @@ returns c =
 
 returns-2 : tie.Need-returns-2 Inv-loop μ-loop Inv-words μ-words
 returns-2 c =
-    let residue = c .before .before .before .residue-of in
-    let checks = c .before .before .before .before .before .before .before .before .checks .ensures in
-    let given = c .before .before .before .before .before .before .before .before .before .before .before .before .before .before in
-    let byte = elem-fits w8 w8 (residue .result) _ (c .before .before .loop .j) (residue .ok .1 .1) tt in
-    check-fails (given .args .p) _ (given .pre .valid) _ _ (residue .result) checks (residue .ensures) (c .before .before .loop .j)
-    (c .before .before .before .before .before .before .before .before .before .words-test .taken) (c .before .loop-test .taken) (c .if1 .taken) (omega (arith, byte))
+    let j = c .before .before .before .before .before .loop .j in
+    let residue = c .before .before .before .before .before .before .before .before .residue-of in
+    let checks = c .before .before .before .before .before .before .before .before .before .before .before .before .before .checks .ensures in
+    let w = c .before .before .before .before .before .before .before .before .before .before .before .before .before .before .before .words .w in
+    let given = c .before .before .before .before .before .before .before .before .before .before .before .before .before .before .before .before .before .before .before in
+    let long : length (residue .result) ≡ 48 = search needs in
+    let nonzero = isZero-false _ (sym (c .before .is-zero .ensures) ∙ unless _ (c .if1 .taken)) in
+    check-fails (given .args .p) _ (given .pre .valid) w _ (residue .result) checks (residue .ensures) j (c .before .before .before .before .before .before .before .before .before .before .before .before .before .before .words-test .taken)
+    (omega (arith, c .before .before .before .before .loop-test .taken, c .before .before .before .before .before .before .looked-at .ensures .0)) (omega (arith, long, checks, checks-most (given .args .p) (given .pre .valid) w))
+    (λ e. nonzero (c .before .before .syndrome .ensures ∙ e))
 
 pub is-codeword-spec : {M : Type 1} → statement M
 is-codeword-spec =
@@ -153,8 +177,12 @@ is-codeword-spec =
     prepare-requires
     slice-aggregate-residue-of
     residue-of-requires
+    slice-aggregate-looked-at
+    looked-at-requires
     loop-holds
-    array-read-if1
+    slice-aggregate-syndrome
+    syndrome-requires
+    is-zero-requires
     add-j
     loop-less
     loop-again
