@@ -26,10 +26,11 @@ use Rattle.series.specs.Interpolation.{interpolate, interpolate-unique}
 use Rattle.kernel.specs.Store.{cut-cong}
 use Rattle.division.specs.Remainder.{remainder}
 use Rattle.division.specs.Multiples.{lower}
+use Rattle.generator.specs.Table.{Table}
 use Rattle.reed_solomon.specs.Definition.{root, syndrome, upper, check-symbols, systematic}
 use Rattle.reed_solomon.specs.Systematic.{roots-distinct, syndrome-is, syndrome-cong, syndrome-⊞, upper-low, upper-high}
 use Rattle.reed_solomon.specs.Systematic.{below-check-symbols, systematic-low, systematic-data, systematic-zero}
-use Rattle.reed_solomon.specs.Encoder.{Table, remainder-checks}
+use Rattle.reed_solomon.specs.Encoder.{remainder-checks}
 
 unfoldable pub residue : ℕ → ℕ → Series → Series
 residue n k w = cut k w ⊞ check-symbols n k w

@@ -7,7 +7,7 @@ use lib.ListN.{getD}
 use borrow.Author.Count.{below-none, below-more}
 use Rattle.series.specs.Array.{bytes}
 use Rattle.profile.specs.Valid.{checks-some, checks-most, checks-room}
-use Rattle.reed_solomon.specs.Made.{Made}
+use Rattle.generator.specs.Table.{Made}
 use Rattle.code.specs.Check.{Vanish, zeros-vanish, check-passes, check-fails}
 use mir.Syntax.{w8}
 use borrow.Author.Needs.{needs, elem-fits}
