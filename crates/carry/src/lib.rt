@@ -7,7 +7,7 @@ ghost use Rattle.series.specs.Series.{_⊞_};
 ghost use Rattle.series.specs.Shift.{cut, drop};
 ghost use Rattle.series.specs.Array.{bytes};
 ghost use Rattle.profile.specs.Definition.{checks as Checks, room as Room};
-ghost use Rattle.reed_solomon.specs.Encoder.{Table};
+ghost use Rattle.generator.specs.Table.{Table};
 ghost use Rattle.code.specs.Newton.{newton as Newton};
 ghost use Rattle.code.specs.Triangle.{carried as Carried};
 ghost use Rattle.code.specs.Check.{Fits};

@@ -7,8 +7,8 @@ ghost use Rattle.series.specs.Series.{O, K, _⊞_, _⊠_};
 ghost use Rattle.series.specs.Shift.{cut};
 ghost use Rattle.series.specs.Array.{bytes};
 ghost use Rattle.series.specs.Decide.{holds};
+ghost use Rattle.generator.specs.Table.{Table};
 ghost use Rattle.reed_solomon.specs.Definition.{syndrome as Syndrome};
-ghost use Rattle.reed_solomon.specs.Encoder.{Table};
 ghost use Rattle.reed_solomon.specs.Residue.{residue as Residue};
 ghost use Rattle.code.specs.Definition.{subword, nested as Nested};
 ghost use Rattle.code.specs.Encoding.{codeword?};
@@ -108,8 +108,8 @@ pub fn syndromes(p: Profile, block: &[u8], k: usize) -> [[Gf; SYNDROMES]; SUBWOR
     requires { ⌜ Fits p (now block) × (k ≤ 48) × (k ≤ p .length) ⌝ }
     ensures { λ r. ⌜ table r ≡ received p (bytes (now (block .entry))) k ⌝ }
 {
-    let mut t = reed_solomon::room();
-    reed_solomon::table(k, &mut t);
+    let mut t = generator::room();
+    generator::table(k, &mut t);
     syndrome_rows(p, &t, block, k)
 }
 
@@ -147,13 +147,13 @@ pub fn is_codeword(p: Profile, block: &[u8]) -> bool
     ensures { λ r. ⌜ r ≡ holds (codeword? p (bytes (now (block .entry)))) ⌝ }
 {
     let m = p.subwords as usize;
-    let mut t = reed_solomon::room();
+    let mut t = generator::room();
     let mut made: usize = 0;
     let mut clean = true;
     let mut w: usize = 0;
     'words: while w < m {
         let k = p.checks(w as u8) as usize;
-        reed_solomon::prepare(&mut t, made, k);
+        generator::prepare(&mut t, made, k);
         made = k;
         let r = residue_of(p, &t, k, block, w);
         let looked = looked_at(&r, k);

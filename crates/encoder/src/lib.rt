@@ -40,14 +40,14 @@ fn write(p: Profile, input: &[u8], out: &mut [u8])
     ensures { λ _. ⌜ Encodes p (bytes (now (input .entry))) (bytes (now (out .exit))) ⌝ }
 {
     let n = p.length as usize;
-    let mut t = reed_solomon::room();
+    let mut t = generator::room();
     let mut made: usize = 0;
     let mut end = input.len();
     let mut i = p.subwords as usize;
     while i > 0 {
         i = i - 1;
         let k = p.checks(i as u8) as usize;
-        reed_solomon::prepare(&mut t, made, k);
+        generator::prepare(&mut t, made, k);
         made = k;
         let start = end - (n - k);
         carry::write_subword(p, &t, i, &input[start..end], out);

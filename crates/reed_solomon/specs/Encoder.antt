@@ -1,7 +1,5 @@
 -- The encoder of one word: the remainder by the generator is the check symbols.
 --
---   Table k t   t is the table of multiples for k check symbols
---
 -- Proved: what the remainder holds at the top is the check symbols (remainder-checks); a loop that writes r from the first position on goes on by
 -- front-more, and with the check symbols ends at the systematic word (front-all).
 use Prim.Native.Nat.{ℕ, _+_, _-_, _≤_, _<_}
@@ -19,14 +17,11 @@ use Rattle.series.specs.Value.{value, value-split, value-zero}
 use Rattle.series.specs.Array.{bytes}
 use Rattle.kernel.specs.Store.{bytes-set}
 use Rattle.division.specs.Remainder.{remainder, below-remainder-top, remainder-top}
-use Rattle.division.specs.Multiples.{Multiples, lower}
+use Rattle.division.specs.Multiples.{lower}
+use Rattle.generator.specs.Generator.{rest, aligned, below-rest, rest-value}
+use Rattle.generator.specs.Table.{Table}
 use Rattle.reed_solomon.specs.Definition.{root, syndrome, upper, check-symbols, systematic}
 use Rattle.reed_solomon.specs.Systematic.{below-check-symbols, check-symbols-is}
-use Rattle.reed_solomon.specs.Generator.{rest, aligned, below-rest, rest-value}
-
-pub record Table (k : ℕ) (t : List ℕ) : Type 0 where
-  pub multiples : Multiples t
-  pub generator : lower t ≡ aligned k
 
 -- ---- the check symbols
 

@@ -1,8 +1,5 @@
--- Definition, `Table` of Encoder and `Made` are what the promises speak of.
+-- Definition is what the promises speak of, with `residue` of Residue.
 pub mod Definition
 pub mod Systematic
-pub mod Generator
-pub mod Coefficients
 pub mod Encoder
-pub mod Made
 pub mod Residue

@@ -2,8 +2,8 @@
 --
 --   residue n k w   that remainder: what the first k symbols of w differ by from the check symbols that the others ask for
 --
--- Proved: it is found by the table (residue-table); it has the word's first k syndromes (residue-syndrome, residue-syndromes), so it is zero exactly if they
--- are (residue-none, residue-clean, residue-zero); it depends on the first n symbols (residue-cong). An array of bytes is zero or not by the bits of its
+-- Proved: it is found by the table (residue-table); it has the word's first k syndromes (residue-syndrome, residue-syndromes), so a word whose remainder is
+-- zero has none (residue-none, residue-clean); it depends on the first n symbols (residue-cong). An array of bytes is zero or not by the bits of its
 -- entries, taken together: a loop that gathers them goes on by bits-more.
 use Prim.Native.Nat.{ℕ, _+_, _-_, _≤_, _<_}
 use mathlib.Core.Path.{_≡_, refl, sym, ap, ap₂, _∙_, fun-ext}
@@ -22,14 +22,15 @@ use Rattle.series.specs.Degree.{below, below-cut, below-cut-eq, below-⊞}
 use Rattle.series.specs.Array.{bytes, read-at, below-read}
 use Rattle.series.specs.Part.{read-take}
 use Rattle.series.specs.Value.{value, value-more, value-cong, value-zero}
-use Rattle.series.specs.Interpolation.{interpolate, interpolate-unique}
+use Rattle.series.specs.Interpolation.{interpolate}
 use Rattle.kernel.specs.Store.{cut-cong}
 use Rattle.division.specs.Remainder.{remainder}
 use Rattle.division.specs.Multiples.{lower}
+use Rattle.generator.specs.Table.{Table}
 use Rattle.reed_solomon.specs.Definition.{root, syndrome, upper, check-symbols, systematic}
-use Rattle.reed_solomon.specs.Systematic.{roots-distinct, syndrome-is, syndrome-cong, syndrome-⊞, upper-low, upper-high}
+use Rattle.reed_solomon.specs.Systematic.{syndrome-is, syndrome-cong, syndrome-⊞, upper-low, upper-high}
 use Rattle.reed_solomon.specs.Systematic.{below-check-symbols, systematic-low, systematic-data, systematic-zero}
-use Rattle.reed_solomon.specs.Encoder.{Table, remainder-checks}
+use Rattle.reed_solomon.specs.Encoder.{remainder-checks}
 
 unfoldable pub residue : ℕ → ℕ → Series → Series
 residue n k w = cut k w ⊞ check-symbols n k w
@@ -85,13 +86,6 @@ module _ (n k : ℕ) (w : Series) (small : k < 255) (room : k ≤ n) where
   pub residue-clean : residue n k w ≡ O → O ≡ cut k (syndrome n w)
   residue-clean z =
       sym (cut-unique k (syndrome n w) O (λ j h. residue-none (λ i _. ap (λ (f : Series). f i) z ∙ O-at i) j h ∙ sym (O-at j)) (λ j _. O-at j))
-
-  -- k distinct roots: a polynomial below k with none of their values is zero
-  pub residue-zero : ((j : ℕ) → j < k → syndrome n w j ≡ 𝟎) → (i : ℕ) → i < k → residue n k w i ≡ 𝟎
-  residue-zero z i h =
-      interpolate-unique k (residue n k w) O root (roots-distinct k small)
-      (λ j l. residue-syndrome j l ∙ z j l ∙ sym (value-zero k O (root j) (λ i _. O-at i))) i h
-      ∙ O-at i
 
   -- from the array that holds it
   pub residue-syndromes : (r : List ℕ) → k ≤ length r → bytes r ≡ residue n k w

@@ -11,19 +11,13 @@ ghost use Rattle.series.specs.Shift.{drop, cut};
 ghost use Rattle.series.specs.Array.{bytes};
 ghost use Rattle.polynomial.specs.Polynomial.{row};
 ghost use Rattle.division.specs.Packed.{packed};
+ghost use Rattle.generator.specs.Table.{Table};
 ghost use Rattle.reed_solomon.specs.Definition.{root as Root, syndrome as Syndrome, systematic};
-ghost use Rattle.reed_solomon.specs.Generator.{aligned};
-ghost use Rattle.reed_solomon.specs.Coefficients.{Zech};
-ghost use Rattle.reed_solomon.specs.Encoder.{Table};
-ghost use Rattle.reed_solomon.specs.Made.{Made};
 ghost use Rattle.reed_solomon.specs.Residue.{residue as Residue};
 use division::Packed;
 use field::Exponent;
 use field::Gf;
 use polynomial::SYNDROMES;
-
-// The words of a table.
-pub const TABLE: usize = 1536;
 
 // α^(j+1), the point of syndrome j.
 pub fn root(j: usize) -> Gf
@@ -41,53 +35,6 @@ pub fn syndrome(word: &[u8], j: usize) -> Gf
     let x = root(j);
     let row = kernel::product_row(x);
     kernel::value(&row, word)
-}
-
-// Zech's logarithms. At i: the exponent of α^(i+1) + 1.
-const LOGARITHMS: [u8; 48] = *b"\x19\x32\xdf\x64\x8a\xbf\x70\xc8\x78\x15\xf5\x7f\x63\xe0\x21\x91\
-    \x44\xf0\x5c\x2a\x0a\xeb\xc4\xfe\x01\xc6\x68\xc1\xb5\x42\x2d\x23\
-    \x0f\x88\x20\xe1\xb3\xb8\x6a\x54\x9d\x14\x79\xd7\x1f\x89\x65\xfd";
-
-// The table by what it means: no caller sees its entries.
-fn zech() -> [u8; 48]
-    ensures { λ r. ⌜ Zech r ⌝ }
-{
-    LOGARITHMS
-}
-
-// The generator of k roots without its top term, which stands where entry 48 would be. From the top down: a coefficient is the one above it, times
-// α^(j+1) (α^(k-j) + 1) / (α^(j+1) + 1), with j coefficients above that one. All are powers of α, and α^255 is 1.
-fn generator(k: usize) -> [u8; 48]
-    requires { ⌜ k ≤ 48 ⌝ }
-    ensures { λ r. ⌜ bytes r ≡ aligned k ⌝ }
-{
-    let z = zech();
-    let mut g = [0u8; 48];
-    let mut e: usize = 0;
-    let mut j: usize = 0;
-    while j < k {
-        let up = kernel::wide(z[k - (j + 1)]);
-        let down = kernel::wide(z[j]);
-        e = e + (j + 256 + up) - down;
-        j += 1;
-        let c = Exponent(e).power();
-        g[48 - j] = c.0;
-    }
-    g
-}
-
-// Room for a table.
-pub fn room() -> [u64; TABLE] {
-    [0u64; TABLE]
-}
-
-// The table for words of k check symbols, made once for any number of words.
-pub fn table(k: usize, t: &mut [u64])
-    requires { ⌜ (k ≤ 48) × (length (now t) ≡ 1536) ⌝ }
-    ensures { λ _. ⌜ Table k (now (t .exit)) ⌝ }
-{
-    let g = generator(k);
-    division::multiples(g, t);
 }
 
 // The first k symbols become the check symbols of the others.
@@ -184,15 +131,4 @@ pub fn syndromes(t: &[u64], k: usize, word: &[u8]) -> [Gf; SYNDROMES]
         return [Gf::ZERO; SYNDROMES];
     }
     values(&r[..k], k)
-}
-
-// The table for k check symbols, made anew unless it was made for them; made for 0 is room that holds none yet.
-pub fn prepare(t: &mut [u64], made: usize, k: usize)
-    requires { ⌜ Made made (now t) × (1 ≤ k) × (k ≤ 48) ⌝ }
-    ensures { λ _. ⌜ Table k (now (t .exit)) ⌝ }
-{
-    if made == k {
-        return;
-    }
-    table(k, t);
 }

@@ -7,7 +7,7 @@ use lib.ListN.{length}
 use lib.Seq.{length-take-le}
 use Rattle.profile.specs.Valid.{checks-most, checks-room}
 use Rattle.code.specs.Check.{inside, part-length}
-use Rattle.reed_solomon.specs.Made.{table-for}
+use Rattle.generator.specs.Table.{table-for}
 use Rattle.carry.specs.Subword.{wrote-is}
 use borrow.Author.Needs.{needs}
 use Rattle.carry.proofs.write_subword.Statement.{statement}

@@ -12,7 +12,7 @@ use Rattle.series.specs.Array.{bytes}
 use Rattle.profile.specs.Laws.{unless, meets}
 use Rattle.profile.specs.Valid.{checks-some, checks-most, checks-room}
 use Rattle.reed_solomon.specs.Definition.{syndrome}
-use Rattle.reed_solomon.specs.Made.{Made}
+use Rattle.generator.specs.Table.{Made}
 use Rattle.code.specs.Check.{Vanish, zeros-vanish, check-passes, check-fails}
 use borrow.Author.Needs.{needs}
 use Rattle.code.proofs.is_codeword.Statement.{statement}

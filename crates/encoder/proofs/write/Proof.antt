@@ -9,7 +9,7 @@ use Rattle.profile.specs.Definition.{data-start}
 use Rattle.profile.specs.Valid.{checks-some, checks-most, data-size-is}
 use Rattle.code.specs.Check.{Fits}
 use Rattle.code.specs.Right.{all-right}
-use Rattle.reed_solomon.specs.Made.{Made, table-for}
+use Rattle.generator.specs.Table.{Made, table-for}
 use Rattle.encoder.specs.Write.{Upper, turn, part-data, upper-next}
 use borrow.Author.Needs.{needs}
 use Rattle.encoder.proofs.write.Statement.{statement}

@@ -4,18 +4,18 @@ use mathlib.Core.Path.{_≡_, sym, ap, _∙_}
 use native.Mathlib.Omega.{arith}
 use lib.ListN.{length, length-set, length-replicate}
 use Rattle.field.specs.Field.{α, pow, of, of-zero, pow-zero, val-of}
-use Rattle.series.specs.Shift.{cut-none}
+use Rattle.series.specs.Series.{_⊠_}
+use Rattle.series.specs.Shift.{zpow, drop, cut-none}
 use Rattle.series.specs.Array.{bytes, read-zeros}
-use Rattle.reed_solomon.specs.Definition.{upper}
-use Rattle.reed_solomon.specs.Generator.{generator, aligned}
-use Rattle.reed_solomon.specs.Coefficients.{coefficient-top, exponent-more, back-none, back-more, back-all}
+use Rattle.generator.specs.Generator.{generator, aligned}
+use Rattle.generator.specs.Coefficients.{coefficient-top, exponent-more, back-none, back-more, back-all}
 use borrow.Author.Needs.{needs}
-use Rattle.reed_solomon.proofs.generator.Statement.{statement}
-use Rattle.reed_solomon.proofs.generator.Tie as tie
+use Rattle.generator.proofs.generator.Statement.{statement}
+use Rattle.generator.proofs.generator.Tie as tie
 
 abbrev Inv-loop : tie.InvT-loop
 Inv-loop k z g₀ e₀ j₀ g e j =
-    (j ≤ k) × (length g ≡ 48) × (e ≤ 600 * j) × (pow α e ≡ generator k (k - j)) × (bytes g ≡ upper (48 - j) (aligned k))
+    (j ≤ k) × (length g ≡ 48) × (e ≤ 600 * j) × (pow α e ≡ generator k (k - j)) × (bytes g ≡ zpow (48 - j) ⊠ drop (48 - j) (aligned k))
 
 abbrev μ-loop : tie.MeasureT-loop
 μ-loop k z g₀ e₀ j₀ g e j = k - j
@@ -101,7 +101,7 @@ returns c =
     let end = c .before .loop in
     let k = c .before .before .before .args .k in
     let e : end .j ≡ k = omega arith in
-    end .inv .4 ∙ ap (λ (n : ℕ). upper (48 - n) (aligned k)) e ∙ back-all k
+    end .inv .4 ∙ ap (λ (n : ℕ). zpow (48 - n) ⊠ drop (48 - n) (aligned k)) e ∙ back-all k
 
 pub generator-spec : {M : Type 1} → statement M
 generator-spec =

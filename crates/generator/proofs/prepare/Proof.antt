@@ -1,9 +1,9 @@
 -- The table that is there, or a new one.
 use native.Mathlib.Omega.{arith}
-use Rattle.reed_solomon.specs.Made.{table-for}
+use Rattle.generator.specs.Table.{table-for}
 use borrow.Author.Needs.{needs}
-use Rattle.reed_solomon.proofs.prepare.Statement.{statement}
-use Rattle.reed_solomon.proofs.prepare.Tie as tie
+use Rattle.generator.proofs.prepare.Statement.{statement}
+use Rattle.generator.proofs.prepare.Tie as tie
 
 returns : tie.Need-returns
 returns c =

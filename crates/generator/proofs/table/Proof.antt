@@ -1,8 +1,8 @@
 -- The table of multiples of the generator.
 use mathlib.Core.Path.{_∙_}
 use borrow.Author.Needs.{needs}
-use Rattle.reed_solomon.proofs.table.Statement.{statement}
-use Rattle.reed_solomon.proofs.table.Tie as tie
+use Rattle.generator.proofs.table.Statement.{statement}
+use Rattle.generator.proofs.table.Tie as tie
 
 generator-requires : tie.Need-generator-requires
 generator-requires c κs = search needs

@@ -3,9 +3,9 @@ use mathlib.Core.Bool.{xor}
 use Rattle.field.specs.Definition.{𝟎, 𝟏, α, _⊕_, _⊙_, times, plus, scale, z⁸, horner, modulo, coefficients, bit, byte, powers}
 use Rattle.field.specs.Log.{powerTable}
 use Rattle.field.specs.Test.{all}
-use Rattle.reed_solomon.specs.Coefficients.{zech?, zech}
-use Rattle.reed_solomon.proofs.zech.Statement.{statement}
-use Rattle.reed_solomon.proofs.zech.Tie as tie
+use Rattle.generator.specs.Coefficients.{zech?, zech}
+use Rattle.generator.proofs.zech.Statement.{statement}
+use Rattle.generator.proofs.zech.Tie as tie
 
 returns : tie.Need-returns
 unfolding zech? all powerTable powers byte bit 𝟎 𝟏 α _⊙_ times plus modulo horner scale z⁸ _⊕_ coefficients xor

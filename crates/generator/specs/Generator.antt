@@ -1,20 +1,24 @@
--- The generator polynomial of k roots.
+-- The roots, and the generator polynomial of k of them.
 --
+--   root j        α^(j+1), the point of syndrome j
 --   generator k   (z + root 0)·(z + root 1) .. (z + root (k - 1))
 --   rest k        the same without its top term z^k
 --   aligned k     the same at the top of 48 coefficients: times z^(48 - k)
 --
 -- Proved: the rest has degree below k and, at each of the k roots, the value of z^k (rest-value).
-use Prim.Native.Nat.{ℕ, zero, suc, _-_, _<_}
+use Prim.Native.Nat.{ℕ, zero, suc, _+_, _-_, _<_}
 use mathlib.Core.Path.{_≡_, sym, _∙_, ap}
 use native.Mathlib.Decide.{ℕ-discrete}
 use native.Mathlib.Omega.{arith}
-use Rattle.field.specs.Field.{F, 𝟎, 𝟏, _⊕_, _⊙_, zero-⊕, ⊕-self, ⊙-zero, zero-⊙, ⊙-one, pow}
+use Rattle.field.specs.Field.{F, 𝟎, 𝟏, α, _⊕_, _⊙_, zero-⊕, ⊕-self, ⊙-zero, zero-⊙, ⊙-one, pow}
 use Rattle.series.specs.Series.{Series, O, K, Z, _⊞_, _⊠_, ⊠-ring, ⊠-one, ⊞-self}
 use Rattle.series.specs.Shift.{zpow, zpow-zero, zpow-suc}
 use Rattle.series.specs.Degree.{below, below-weaken, below-O, below-K, below-Z, below-zpow, below-⊞, below-⊠, below-K-⊠}
 use Rattle.series.specs.Value.{value, value-more, value-⊞, value-⊠, value-K, value-Z-⊠, value-zpow}
-use Rattle.reed_solomon.specs.Definition.{root}
+
+-- the one place where the first root stands
+unfoldable pub root : ℕ → F
+root j = pow α (j + 1)
 
 unfoldable pub generator : ℕ → Series
 generator zero = K 𝟏

@@ -20,13 +20,11 @@ use Rattle.field.specs.Field.{alpha≢zero, of-byte, of-xor, of-one, pow-zero, 
 use Rattle.field.specs.Log.{powerTable, powerTable-at}
 use Rattle.field.specs.Test.{all, all-at, and-both}
 use Rattle.series.specs.Series.{Series, O, K, Z, _⊞_, _⊠_, ⊠-ring, ⊞-at, K-suc, K-⊠-at, Z-⊠-at0, Z-⊠-at, ⊞-⊠, ⊠-zero, head-tail}
-use Rattle.series.specs.Shift.{zpow, drop, zpow-suc, zpow-at, zpow-one, zpow-other, drop-at0, drop-suc, drop-zpow}
+use Rattle.series.specs.Shift.{zpow, drop, zpow-suc, zpow-at, zpow-one, zpow-other, zpow-low, drop-at0, drop-suc, drop-zpow}
 use Rattle.series.specs.Degree.{below, below-⊠, below-zpow, below-drop, below-none}
 use Rattle.series.specs.Array.{bytes}
 use Rattle.kernel.specs.Store.{bytes-add}
-use Rattle.reed_solomon.specs.Definition.{root, upper}
-use Rattle.reed_solomon.specs.Systematic.{upper-low}
-use Rattle.reed_solomon.specs.Generator.{generator, rest, aligned, below-rest}
+use Rattle.generator.specs.Generator.{root, generator, rest, aligned, below-rest}
 
 -- ---- the generator stretched
 
@@ -162,30 +160,28 @@ below-aligned : (k : ℕ) → k ≤ 48 → below 48 (aligned k)
 unfolding aligned
 below-aligned k h = below-⊠ (suc (48 - k)) k 48 (zpow (48 - k)) (rest k) (below-zpow (48 - k)) (below-rest k) (omega arith)
 
-pub back-none : (k : ℕ) → k ≤ 48 → O ≡ upper 48 (aligned k)
-unfolding upper
+pub back-none : (k : ℕ) → k ≤ 48 → O ≡ zpow 48 ⊠ drop 48 (aligned k)
 back-none k h = sym (ap (λ (f : Series). zpow 48 ⊠ f) (below-none _ (below-drop 48 48 _ (below-aligned k h))) ∙ ⊠-zero _)
 
-upper-more : (n : ℕ) (w : Series) → upper (suc n) w ⊞ K (w n) ⊠ zpow n ≡ upper n w
-unfolding upper
+upper-more : (n : ℕ) (w : Series) → zpow (suc n) ⊠ drop (suc n) w ⊞ K (w n) ⊠ zpow n ≡ zpow n ⊠ drop n w
 upper-more n w = sym (ap (λ (f : Series). zpow n ⊠ f) (head-tail (drop n w)) ∙ rw (drop-at0, ← drop-suc n w, zpow-suc) (simp ⊠-ring))
 
-pub back-more : (l : List ℕ) (k j v : ℕ) → k ≤ 48 → j < k → length l ≡ 48 → bytes l ≡ upper (48 - j) (aligned k) → of v ≡ generator k (k - (j + 1))
-    → bytes (set l (48 - (j + 1)) v) ≡ upper (48 - (j + 1)) (aligned k)
+pub back-more : (l : List ℕ) (k j v : ℕ) → k ≤ 48 → j < k → length l ≡ 48 → bytes l ≡ zpow (48 - j) ⊠ drop (48 - j) (aligned k)
+    → of v ≡ generator k (k - (j + 1)) → bytes (set l (48 - (j + 1)) v) ≡ zpow (48 - (j + 1)) ⊠ drop (48 - (j + 1)) (aligned k)
 back-more l k j v h m long e q =
     let s : 48 - j ≡ suc n = omega arith in
     let d : 48 - k + (k - (j + 1)) ≡ n = omega arith in
     let here : of v ≡ aligned k n = q ∙ sym (aligned-at k (k - (j + 1)) h (omega arith)) ∙ ap (aligned k) d in
     bytes-add l n v (aligned k n) (omega arith) (here ∙ sym (ap (λ (x : F). x ⊕ aligned k n) (none s) ∙ zero-⊕ _))
-    ∙ ap (λ (f : Series). f ⊞ K (aligned k n) ⊠ zpow n) (e ∙ ap (λ (m : ℕ). upper m (aligned k)) s)
+    ∙ ap (λ (f : Series). f ⊞ K (aligned k n) ⊠ zpow n) (e ∙ ap (λ (m : ℕ). zpow m ⊠ drop m (aligned k)) s)
     ∙ upper-more n (aligned k)
   where
     n : ℕ
     n = 48 - (j + 1)
 
     none : 48 - j ≡ suc n → bytes l n ≡ 𝟎
-    none s = ap (λ (f : Series). f n) (e ∙ ap (λ (m : ℕ). upper m (aligned k)) s) ∙ upper-low (suc n) (aligned k) n (omega arith)
+    none s = ap (λ (f : Series). f n) (e ∙ ap (λ (m : ℕ). zpow m ⊠ drop m (aligned k)) s) ∙ zpow-low (suc n) (drop (suc n) (aligned k)) n (omega arith)
 
-pub back-all : (k : ℕ) → upper (48 - k) (aligned k) ≡ aligned k
-unfolding upper aligned
+pub back-all : (k : ℕ) → zpow (48 - k) ⊠ drop (48 - k) (aligned k) ≡ aligned k
+unfolding aligned
 back-all k = ap (λ (f : Series). zpow (48 - k) ⊠ f) (drop-zpow (48 - k) (rest k))
