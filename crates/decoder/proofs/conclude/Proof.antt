@@ -2,7 +2,7 @@
 use mathlib.Core.Path.{refl, sym, _∙_}
 use native.Mathlib.Omega.{arith}
 use Rattle.profile.specs.Laws.{unless, meets}
-use Rattle.decoder.specs.Laws.{gives-refused, unsettled-is, foreign-is, gives-read}
+use Rattle.decoder.specs.Laws.{gives-unsettled, gives-foreign, gives-read}
 use borrow.Author.Needs.{needs}
 use Rattle.decoder.proofs.conclude.Statement.{statement}
 use Rattle.decoder.proofs.conclude.Tie as tie
@@ -17,8 +17,8 @@ returns : tie.Need-returns
 returns c =
     let given = c .before .before .before .before .before .before .before .before in
     let refuse = c .before .before .refuse in
-    λ y r. rw (unsettled-is (given .args .p) (given .args .form) y _ (given .args .e) r (unless _ (c .before .before .before .before .if1 .taken)))
-    (gives-refused _ _ _ _ (refuse .result) (refuse .ensures .0) (refuse .ensures .1 .0) (refuse .ensures .1 .1))
+    λ y r. gives-unsettled (given .args .p) (given .args .form) y _ (given .args .e) r _ _ (refuse .result)
+    (unless _ (c .before .before .before .before .if1 .taken)) (refuse .ensures .0) (refuse .ensures .1 .0) (refuse .ensures .1 .1)
 
 is-codeword-requires : tie.Need-is-codeword-requires
 is-codeword-requires c κs = c .before .before .before .before .pre .0
@@ -34,8 +34,8 @@ returns-2 c =
     let given = c .before .before .before .before .before .before .before .before .before .before in
     let refuse = c .before .before .refuse2 in
     let wrong = sym (c .before .before .before .before .before .is-codeword .ensures) ∙ unless _ (c .before .before .before .before .if2 .taken) in
-    λ y r. rw (foreign-is (given .args .p) (given .args .form) y _ (given .args .e) r (meets _ (c .before .before .before .before .before .before .if1 .left)) wrong)
-    (gives-refused _ _ _ _ (refuse .result) (refuse .ensures .0) (refuse .ensures .1 .0) (refuse .ensures .1 .1))
+    λ y r. gives-foreign (given .args .p) (given .args .form) y _ (given .args .e) r _ _ (refuse .result)
+    (meets _ (c .before .before .before .before .before .before .if1 .left)) wrong (refuse .ensures .0) (refuse .ensures .1 .0) (refuse .ensures .1 .1)
 
 copy-requires : tie.Need-copy-requires
 copy-requires c κs = c .before .before .before .before .before .before .before .pre .1

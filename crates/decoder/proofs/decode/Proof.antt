@@ -2,7 +2,7 @@
 use mathlib.Core.Path.{sym, ap, _∙_}
 use native.Mathlib.Omega.{arith}
 use Rattle.decoder.specs.Definition.{judged}
-use Rattle.decoder.specs.Laws.{passed}
+use Rattle.decoder.specs.Laws.{passed, gives-refused, gives-as}
 use borrow.Author.Needs.{needs}
 use Rattle.decoder.proofs.decode.Statement.{statement}
 use Rattle.decoder.proofs.decode.Tie as tie
@@ -35,8 +35,9 @@ returns c =
     let told = c .before .before .before .before .before in
     let given = c .before .before .before .before .before .before .before .before .before .before .before in
     let is = ap (λ a. judged a (given .args .input .now)) (sym (told .before .before .questions .ensures) ∙ told .p .given .1) in
-    let gives = c .before .before .read .ensures in
-    rw is (gives .answer, (gives .block, gives .report))
+    let read = c .before .before .read in
+    let gives = gives-as (given .args .form) _ _ _ _ (read .result) is (read .ensures) in
+    (gives .answer, (gives .block, gives .report))
 
 same-length-2 : tie.Need-same-length-2
 same-length-2 c = search needs
@@ -47,7 +48,10 @@ returns-2 c =
     let given = c .before .before .before .before .before .before .before .before .before .before .before in
     let is = ap (λ a. judged a (given .args .input .now)) (sym (told .before .before .questions .ensures) ∙ told .q .given .1) in
     let refuse = c .before .before .refuse in
-    rw is (refuse .ensures)
+    let form = given .args .form in
+    let refused = gives-refused form _ _ _ (refuse .result) (refuse .ensures .0) (refuse .ensures .1 .0) (refuse .ensures .1 .1) in
+    let gives = gives-as form _ _ _ _ (refuse .result) is refused in
+    (gives .answer, (gives .block, gives .report))
 
 pub decode-spec : {M : Type 1} → statement M
 decode-spec =

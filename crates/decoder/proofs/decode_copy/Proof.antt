@@ -1,4 +1,6 @@
+-- The copy is decoded, and stands for the input.
 use native.Mathlib.Omega.{arith}
+use Rattle.decoder.specs.Laws.{fits-same, reached-same}
 use borrow.Author.Needs.{needs}
 use Rattle.decoder.proofs.decode_copy.Statement.{statement}
 use Rattle.decoder.proofs.decode_copy.Tie as tie
@@ -9,7 +11,7 @@ copy-requires c κs = c .before .before .before .before .pre .1
 run-requires : tie.Need-run-requires
 run-requires c κs =
     let given = c .before .before .before .before .before .before .before .before in
-    rw (c .before .before .before .copy .ensures) (given .pre .0)
+    fits-same (c .before .before .before .copy .ensures) (given .pre .0)
 
 conclude-requires : tie.Need-conclude-requires
 conclude-requires c κs =
@@ -29,7 +31,7 @@ returns c =
     let given = c .before .before .before .before .before .before .before .before .before .before .before .before .before .before .before .before in
     let run = c .before .before .before .before .before .before .before .run in
     let copied = c .before .before .before .before .before .before .before .before .before .before .before .copy .ensures in
-    c .before .before .conclude .ensures _ (rw copied at (run .ensures))
+    c .before .before .conclude .ensures _ (reached-same copied (run .ensures))
 
 pub decode-copy-spec : {M : Type 1} → statement M
 decode-copy-spec =

@@ -1,6 +1,6 @@
+-- The two questions in their order.
 use native.Mathlib.Omega.{arith}
-use borrow.Author.Tests.{eq-eqb, ne-eqb}
-use Rattle.profile.specs.Definition.{block-size}
+use Rattle.decoder.specs.Laws.{asked-input, asked-output, asked-both}
 use borrow.Author.Needs.{needs}
 use Rattle.decoder.proofs.judge.Statement.{statement}
 use Rattle.decoder.proofs.judge.Tie as tie
@@ -11,7 +11,7 @@ block-size-requires c κs = search needs
 returns : tie.Need-returns
 returns c =
     let given = c .before .before .args in
-    rw (ne-eqb (given .input) (block-size (given .p)) (λ e. omega (arith, c .before .block-size .ensures)))
+    asked-input (given .p) (given .input) (given .output) (λ e. omega (arith, c .before .block-size .ensures))
 
 block-size-requires-2 : tie.Need-block-size-requires-2
 block-size-requires-2 c κs = search needs
@@ -19,18 +19,14 @@ block-size-requires-2 c κs = search needs
 returns-2 : tie.Need-returns-2
 returns-2 c =
     let given = c .before .before .before .before .args in
-    rw (
-      eq-eqb (given .input) (block-size (given .p)) (omega (arith, c .before .before .before .block-size .ensures, c .before .before .if1 .left)),
-      ne-eqb (given .output) (block-size (given .p)) (λ e. omega (arith, c .before .block-size2 .ensures)),
-    )
+    asked-output (given .p) (given .input) (given .output) (omega (arith, c .before .before .before .block-size .ensures, c .before .before .if1 .left))
+    (λ e. omega (arith, c .before .block-size2 .ensures))
 
 returns-3 : tie.Need-returns-3
 returns-3 c =
     let given = c .before .before .before .before .args in
-    rw (
-      eq-eqb (given .input) (block-size (given .p)) (omega (arith, c .before .before .before .block-size .ensures, c .before .before .if1 .left)),
-      eq-eqb (given .output) (block-size (given .p)) (omega (arith, c .before .block-size2 .ensures)),
-    )
+    asked-both (given .p) (given .input) (given .output) (omega (arith, c .before .before .before .block-size .ensures, c .before .before .if1 .left))
+    (omega (arith, c .before .block-size2 .ensures))
 
 pub judge-spec : {M : Type 1} → statement M
 judge-spec =
