@@ -1,7 +1,8 @@
-// Single bytes.
-ghost use Prim.Native.Nat.{_<_};
+// Single bytes, and their product with no table: for loops, where many are taken at a time.
+ghost use Prim.Native.Nat.{_/_, _<_};
 ghost use mathlib.Core.Path.{_≡_};
-ghost use Rattle.field.specs.Field.{α, _⊙_, of};
+ghost use Rattle.field.specs.Field.{α, _⊕_, _⊙_, of, val};
+use field::Gf;
 
 // A byte as an index.
 pub fn wide(x: u8) -> usize
@@ -15,4 +16,31 @@ pub fn twice(x: u8) -> u8
     ensures { λ r. ⌜ of r ≡ α ⊙ of x ⌝ }
 {
     (x << 1) ^ ((x >> 7) * 29)
+}
+
+// A step of Horner's rule: twice p, with a added if the top bit of n is 1.
+fn step(p: u8, a: u8, n: u8) -> u8
+    ensures { λ r. ⌜ of r ≡ α ⊙ of p ⊕ of (n / 128) ⊙ of a ⌝ }
+{
+    twice(p) ^ ((n >> 7) * a)
+}
+
+// The product, by the bits of b from the top: no table is read and no branch is taken.
+pub fn multiply(a: u8, b: u8) -> u8
+    ensures { λ r. ⌜ of r ≡ of a ⊙ of b ⌝ }
+{
+    let p7 = step(0, a, b);
+    let p6 = step(p7, a, b << 1);
+    let p5 = step(p6, a, b << 2);
+    let p4 = step(p5, a, b << 3);
+    let p3 = step(p4, a, b << 4);
+    let p2 = step(p3, a, b << 5);
+    let p1 = step(p2, a, b << 6);
+    step(p1, a, b << 7)
+}
+
+pub fn product(x: Gf, y: Gf) -> Gf
+    ensures { λ r. ⌜ val r ≡ val x ⊙ val y ⌝ }
+{
+    Gf(multiply(x.0, y.0))
 }

@@ -1,8 +1,10 @@
-// Hot loops over lent bytes and lent rows of products.
+// A product with no table, for loops; hot loops over lent bytes and lent rows of products.
 // The promises are equations of series: `bytes l` is the list l as the series of its entries, then zeros.
 mod byte;
 mod row;
 
+pub use byte::multiply;
+pub use byte::product;
 pub use byte::twice;
 pub use byte::wide;
 pub use row::add;

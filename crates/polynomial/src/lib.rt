@@ -32,7 +32,7 @@ pub fn scale(a: Gf, f: [Gf; COEFFICIENTS]) -> [Gf; COEFFICIENTS]
     let mut out = [Gf::ZERO; COEFFICIENTS];
     let mut i: usize = 0;
     while i < COEFFICIENTS {
-        out[i] = a.product(f[i]);
+        out[i] = kernel::product(a, f[i]);
         i = i + 1;
     }
     out

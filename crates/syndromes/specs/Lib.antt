@@ -1,3 +1,3 @@
--- Zero is what `is_zero` promises of; Partial proves `convolve`.
+-- Zero is what `is_zero` promises of; Turned proves `convolve`.
 pub mod Zero
-pub mod Partial
+pub mod Turned

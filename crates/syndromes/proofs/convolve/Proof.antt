@@ -1,63 +1,54 @@
--- d is the sum of the first i terms. Those before first_term and from end_of_terms on are zero.
-use Prim.Native.Nat.{_+_, _-_, _≤_}
-use mathlib.Core.Path.{_≡_, refl, sym, ap₂, _∙_}
+-- d is the sum of the first j products.
+use Prim.Native.Nat.{_-_, _≤_}
+use mathlib.Core.Path.{_≡_, sym, ap₂, _∙_}
 use native.Mathlib.Omega.{arith}
-use Rattle.field.specs.Field.{_⊕_, _⊙_, val, val-zero}
-use Rattle.polynomial.specs.Polynomial.{poly, row, poly-at, row-at, below-poly, below-row}
-use Rattle.syndromes.specs.Partial.{partial, partial-more, partial-early, partial-all}
+use Rattle.field.specs.Field.{_⊕_, val, val-zero}
+use Rattle.series.specs.Sum.{sum, sum-none}
+use Rattle.polynomial.specs.Polynomial.{poly, poly-at, below-poly}
+use Rattle.syndromes.specs.Turned.{sum-next, turned-sum}
 use borrow.Author.Needs.{needs}
 use Rattle.syndromes.proofs.convolve.Statement.{statement}
 use Rattle.syndromes.proofs.convolve.Tie as tie
 
 abbrev Inv-loop : tie.InvT-loop
-Inv-loop r f s end d₀ i₀ d i = (i ≤ r + 1) × (r ≤ i + 47) × (val d ≡ partial (poly f) (row s) r i)
+Inv-loop r p d₀ j₀ d j = (j ≤ 49) × (val d ≡ sum j (poly p))
 
 abbrev μ-loop : tie.MeasureT-loop
-μ-loop r f s end d₀ i₀ d i = 49 - i
+μ-loop r p d₀ j₀ d j = 49 - j
 
-end-of-terms-requires : tie.Need-end-of-terms-requires Inv-loop μ-loop
-end-of-terms-requires c κs = search needs
+turned-requires : tie.Need-turned-requires Inv-loop μ-loop
+turned-requires c κs = search needs
 
-first-term-requires : tie.Need-first-term-requires Inv-loop μ-loop
-first-term-requires c κs = search needs
+products-requires : tie.Need-products-requires Inv-loop μ-loop
+products-requires c κs = search needs
 
 loop-holds : tie.Need-loop-holds Inv-loop μ-loop
-loop-holds c = (omega arith, omega arith, val-zero ∙ sym (partial-early 48 _ _ _ _ (below-row _) (omega arith)))
+loop-holds c = (search needs, val-zero ∙ sym (sum-none _))
 
-array-copy-out-product : tie.Need-array-copy-out-product Inv-loop μ-loop
-array-copy-out-product c = search needs
-
-sub-product : tie.Need-sub-product Inv-loop μ-loop
-sub-product c = search needs
-
-array-copy-out-product-2 : tie.Need-array-copy-out-product-2 Inv-loop μ-loop
-array-copy-out-product-2 c = search needs
-
-product-requires : tie.Need-product-requires Inv-loop μ-loop
-product-requires c κs = search needs
+array-copy-out-sum : tie.Need-array-copy-out-sum Inv-loop μ-loop
+array-copy-out-sum c = search needs
 
 sum-requires : tie.Need-sum-requires Inv-loop μ-loop
 sum-requires c κs = search needs
 
-add-i : tie.Need-add-i Inv-loop μ-loop
-add-i c = search needs
+add-j : tie.Need-add-j Inv-loop μ-loop
+add-j c = search needs
 
 loop-less : tie.Need-loop-less Inv-loop μ-loop
 loop-less c = search needs
 
 loop-again : tie.Need-loop-again Inv-loop μ-loop
 loop-again c =
-    let inv = c .before .before .before .before .before .loop .inv in (
-      omega arith,
-      omega arith,
-      c .sum .ensures ∙ ap₂ _⊕_ (inv .2) (c .before .product .ensures)
-          ∙ sym (partial-more _ _ _ _ ∙ ap₂ _⊕_ refl (ap₂ _⊙_ (poly-at _ _ (omega arith)) (row-at _ _ (omega arith)))),
-    )
+    let turn = c .before .before in
+    let inv = turn .before .loop .inv in
+    let l = turn .loop-test .taken in
+    (omega arith, c .sum .ensures ∙ ap₂ _⊕_ (inv .1) (sym (poly-at _ _ l)) ∙ sym (sum-next _ _))
 
 returns : tie.Need-returns Inv-loop μ-loop
 returns c =
     let end = c .before .loop in
-    end .inv .2 ∙ partial-all 49 _ _ _ (end .i) (below-poly _) (end .inv .0) (λ h. omega arith)
+    let made = c .before .before in
+    end .inv .1 ∙ turned-sum _ _ _ _ _ _ (omega arith) (below-poly _) (made .before .turned .ensures) (made .products .ensures)
 
 pub convolve-spec : {M : Type 1} → statement M
 convolve-spec =
@@ -65,15 +56,12 @@ convolve-spec =
     (tie.spec
     Inv-loop
     μ-loop
-    end-of-terms-requires
-    first-term-requires
+    turned-requires
+    products-requires
     loop-holds
-    array-copy-out-product
-    sub-product
-    array-copy-out-product-2
-    product-requires
+    array-copy-out-sum
     sum-requires
-    add-i
+    add-j
     loop-less
     loop-again
     returns)

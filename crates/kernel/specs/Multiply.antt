@@ -1,0 +1,48 @@
+-- Products by the bits of a factor, from the top: Horner's rule.
+--
+--   Times a m p   p is m times a, as field values
+--
+-- Proved: a bit times a byte (pick-lt, of-pick); the first bit and the next one (times-first, times-more).
+use Prim.Native.Nat.{ℕ, _+_, _*_, _/_, _%_, _<_}
+use mathlib.Core.Path.{_≡_, sym, ap, ap₂, _∙_}
+use native.Mathlib.Decide.{ℕ-discrete}
+use native.Mathlib.Nat.{one-mul, zero-mul}
+use native.Mathlib.Omega.{arith}
+use lib.Bits.{xor-shifted}
+use Rattle.field.specs.Field.{F, α, _⊕_, _⊙_, of, of-xor, of-zero, of-one, of-double, zero-⊕, zero-⊙, one-⊙, ⊙-zero, ⊙-assoc, ⊕-⊙}
+
+abbrev pub Times : ℕ → ℕ → ℕ → Type 0
+Times a m p = of p ≡ of m ⊙ of a
+
+pub pick-lt : (t a : ℕ) → t < 2 → a < 256 → t * a < 256
+pick-lt t a h l = go (ℕ-discrete t 0)
+  where
+    go : Dec (t ≡ 0) → t * a < 256
+    go (yes e) = rw (e, zero-mul) (omega arith)
+    go (no n) = let e : t ≡ 1 = omega arith in rw (e, one-mul) l
+
+pub of-pick : (t a : ℕ) → t < 2 → of (t * a) ≡ of t ⊙ of a
+of-pick t a h = go (ℕ-discrete t 0)
+  where
+    go : Dec (t ≡ 0) → of (t * a) ≡ of t ⊙ of a
+    go (yes e) = rw (e, zero-mul, of-zero) (sym (zero-⊙ (of a)))
+    go (no n) = let e : t ≡ 1 = omega arith in rw (e, one-mul, of-one) (sym (one-⊙ (of a)))
+
+pub times-first : (a m p t : ℕ) → of p ≡ α ⊙ of 0 ⊕ of t ⊙ of a → t ≡ m → Times a m p
+times-first a m p t e h = e ∙ rw (h, of-zero, ⊙-zero) (zero-⊕ _)
+
+-- the last bit of m, and what stands above it
+last-bit : (m : ℕ) → m < 256 → of m ≡ α ⊙ of (m / 2) ⊕ of (m % 2)
+last-bit m h =
+    let e : m / 2 * 2 + m % 2 ≡ m = omega arith in
+    let d : m / 2 * 2 ≡ m / 2 + m / 2 = omega arith in
+    sym (ap of (xor-shifted (m / 2) 1 (m % 2) (omega arith) ∙ e))
+    ∙ of-xor (m / 2 * 2) (m % 2)
+    ∙ ap (λ (s : F). s ⊕ of (m % 2)) (ap of d ∙ of-double (m / 2) (omega arith))
+
+pub times-more : (a k m p q t : ℕ) → m < 256 → k ≡ m / 2 → t ≡ m % 2 → Times a k p → of q ≡ α ⊙ of p ⊕ of t ⊙ of a → Times a m q
+times-more a k m p q t l high low h e =
+    e ∙ ap₂ (λ (s : F) (b : ℕ). α ⊙ s ⊕ of b ⊙ of a) (h ∙ ap (λ (b : ℕ). of b ⊙ of a) high) low
+    ∙ ap (λ (s : F). s ⊕ of (m % 2) ⊙ of a) (sym (⊙-assoc α (of (m / 2)) (of a)))
+    ∙ sym (⊕-⊙ (α ⊙ of (m / 2)) (of (m % 2)) (of a))
+    ∙ ap (λ (s : F). s ⊙ of a) (sym (last-bit m l))
