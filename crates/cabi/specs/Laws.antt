@@ -26,8 +26,8 @@ use Rattle.fetch.specs.Definition.{fetching, part, empty, refuses}
 use Rattle.solver.specs.declared.Form.{Form}
 use Rattle.solver.specs.declared.Form.the-variants.{Plain}
 use Rattle.stages.specs.View.{says}
-use Rattle.decoder.specs.declared.Report.{Report}
-use Rattle.decoder.specs.Definition.{Result, answer-to, report-of, Tells}
+use Rattle.reader.specs.declared.Report.{Report}
+use Rattle.reader.specs.Definition.{Result, answer-to, report-of, Tells}
 use Rattle.numbers.specs.Definition.{stage-of, listed, filled}
 use Rattle.cabi.specs.Definition.{Stands, form-of, numbers}
 

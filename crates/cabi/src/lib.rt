@@ -7,7 +7,8 @@ ghost use Rattle.profile.specs.Definition.{profile-of, answer-of, answer-number
 ghost use Rattle.layout.specs.Definition.{if-accepted, start as Start};
 ghost use Rattle.fetch.specs.Definition.{fetching, part as Part, refuses};
 ghost use Rattle.encoder.specs.Definition.{writing, written};
-ghost use Rattle.decoder.specs.Definition.{reading, answer-to, block-of};
+ghost use Rattle.reader.specs.Definition.{answer-to, block-of};
+ghost use Rattle.decoder.specs.Definition.{reading};
 ghost use Rattle.numbers.specs.Definition.{filled};
 ghost use Rattle.cabi.specs.Definition.{Stands, form-of, numbers};
 use profile::Answer;

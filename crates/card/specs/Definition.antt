@@ -19,7 +19,7 @@ use Rattle.profile.specs.declared.Parsed.{Parsed}
 use Rattle.profile.specs.declared.Parsed.the-variants.{Accepted, Refused}
 use Rattle.profile.specs.Definition.{profile-of, number-of, block-size}
 use Rattle.staged.specs.Definition.{decode}
-use Rattle.decoder.specs.Definition.{Result, read, refused, concluded}
+use Rattle.reader.specs.Definition.{Result, read, refused, concluded}
 use Rattle.listing.specs.Definition.{blocks-line, ok-line, refused-line, card-line}
 
 -- "is each section whole? No: 11."

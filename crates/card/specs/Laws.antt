@@ -19,7 +19,7 @@ use Rattle.profile.specs.declared.Answer.{Answer}
 use Rattle.profile.specs.declared.Parsed.the-variants.{Accepted, Refused}
 use Rattle.profile.specs.Definition.{profile-of, number-of, block-size}
 use Rattle.profile.specs.Valid.{Valid}
-use Rattle.decoder.specs.Definition.{Result, read, refused, answer-to, report-of}
+use Rattle.reader.specs.Definition.{Result, read, refused, answer-to, report-of}
 use Rattle.listing.specs.Definition.{blocks-line, ok-line, card-line, Says}
 use Rattle.card.specs.declared.Section.{Section}
 use Rattle.card.specs.declared.Section.the-variants.{Size, Bytes, Count, Block, End, Over}

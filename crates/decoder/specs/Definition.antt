@@ -1,39 +1,19 @@
--- What is read: document 01, "Questions, put one by one" and "Staged decoding".
+-- What is read: document 01, "Questions, put one by one", then as the reader's Definition says.
 --
 --   asked d o a        questions 6 and 7 about an input of d and an output of o bytes, put to what was accepted so far
 --   questioned b d o   the profile of the bytes b, or the first question that says no
---   Result             a block with its report, or a refusal
---   concluded p x      the result of an outcome of staged decoding
 --   reading b y o      the result for a profile b, an input y and an output of o bytes
---   answer r           what is answered; block r o: what the output holds in the end, o being what it held; report r: what is reported
---   Gives f r o e a    that is what the reading a gives for the result r, the output being o before and e in the end
---   Tells f x r        the report r of the code says what x says, each solver in the form f at the end of its subword's rounds
 use Prim.Native.Nat.{ℕ}
-use mathlib.Core.Path.{_≡_}
-use mathlib.Core.List.{List, map}
+use mathlib.Core.List.{List}
 use lib.Dec.{eqb}
 use lib.ListN.{length}
-use Rattle.field.specs.Field.{byte}
-use Rattle.series.specs.Series.{Series}
 use Rattle.series.specs.Array.{bytes}
-use Rattle.series.specs.Word.{word}
-use Rattle.profile.specs.declared.Profile.{Profile}
-use Rattle.profile.specs.declared.Refusal.{Refusal}
-use Rattle.profile.specs.declared.Refusal.the-variants.{InputSize, OutputSize, Unsettled, NotCodeword}
+use Rattle.profile.specs.declared.Refusal.the-variants.{InputSize, OutputSize}
 use Rattle.profile.specs.declared.Parsed.{Parsed}
 use Rattle.profile.specs.declared.Parsed.the-variants.{Accepted, Refused}
-use Rattle.profile.specs.declared.Answer.{Answer}
-use Rattle.profile.specs.declared.Answer.the-variants as answer
 use Rattle.profile.specs.Definition.{profile-of, ask, block-size}
-use Rattle.solver.specs.declared.Form.{Form}
-use Rattle.continuation.specs.Definition.{Ended}
-use Rattle.staged.specs.Definition as staged
-use Rattle.staged.specs.Definition.{Outcome, accepted, failed, foreign, decode}
-use Rattle.staged.specs.Clean.{untouched}
-use Rattle.turn.specs.declared.Line.{Line}
-use Rattle.stages.specs.View.{says, Has}
-use Rattle.decoder.specs.declared.Report.{Report}
-use Rattle.decoder.specs.declared.Reading.{Reading}
+use Rattle.staged.specs.Definition.{decode}
+use Rattle.reader.specs.Definition.{Result, refused, concluded}
 
 -- "Is the input exactly .. m × n (reader ..)?", then "Is the output exactly m × n?"
 abbrev pub asked : ℕ → ℕ → Parsed → Parsed
@@ -42,49 +22,9 @@ asked d o a = ask (λ p. eqb o (block-size p)) OutputSize (ask (λ p. eqb d (blo
 abbrev pub questioned : List ℕ → ℕ → ℕ → Parsed
 questioned b d o = asked d o (profile-of b)
 
--- ---- results
-
-pub data Result : Type 0 where
-  read : Profile → Series → staged.Report → Result
-  refused : Refusal → Result
-
--- "Does staged decoding settle every strip? .. No: 8, with the stage it ended after. .. Is the settled block a codeword? .. No: 9."
-abbrev pub concluded : Profile → Outcome → Result
-concluded p (accepted s x) = read p s x
-concluded p (failed r) = refused (Unsettled r)
-concluded p foreign = refused NotCodeword
-
 abbrev pub judged : Parsed → List ℕ → Result
 judged (Accepted p) y = concluded p (decode p (bytes y))
 judged (Refused q) y = refused q
 
 abbrev pub reading : List ℕ → List ℕ → ℕ → Result
 reading b y o = judged (questioned b (length y) o) y
-
--- ---- what is said of a result
-
-abbrev pub answer-to : Result → Answer
-answer-to (read p s x) = answer.Accepted
-answer-to (refused q) = answer.Refused q
-
--- "every output buffer keeps its bytes"
-abbrev pub block-of : Result → List ℕ → List ℕ
-block-of (read p s x) o = map byte (word (block-size p) s)
-block-of (refused q) o = o
-
--- a refusal comes with the report of an untouched block: clean lines, nothing changed, stage 0
-abbrev pub report-of : Result → staged.Report
-report-of (read p s x) = x
-report-of (refused q) = untouched
-
-pub record Tells (f : Form) (x : staged.Report) (r : Report) : Type 0 where
-  pub long : length (r .lines) ≡ 8
-  pub lines : (i : ℕ) → says (r .lines) i ≡ x .line i
-  pub changed : r .changed ≡ x .changed
-  pub last : r .last ≡ x .last
-  pub solvers : (i : ℕ) (l : Line) → Has (r .lines) i l → Ended f (x .rounds i) (l .solver)
-
-pub record Gives (f : Form) (r : Result) (o e : List ℕ) (a : Reading) : Type 0 where
-  pub answer : a .answer ≡ answer-to r
-  pub block : e ≡ block-of r o
-  pub report : Tells f (report-of r) (a .report)

@@ -43,8 +43,9 @@ use Rattle.staged.specs.Failing.{failing-exactly}
 use Rattle.staged.specs.Clean.{untouched, decode-codeword}
 use Rattle.turn.specs.declared.Line.{Line}
 use Rattle.stages.specs.View.{says, Has}
-use Rattle.decoder.specs.declared.Reading.{Reading}
-use Rattle.decoder.specs.Definition.{questioned, Result, read, concluded, judged, reading, answer-to, block-of, report-of, Gives}
+use Rattle.reader.specs.declared.Reading.{Reading}
+use Rattle.reader.specs.Definition.{Result, read, concluded, answer-to, block-of, report-of, Gives}
+use Rattle.decoder.specs.Definition.{questioned, judged, reading}
 
 -- ---- accepted profiles
 

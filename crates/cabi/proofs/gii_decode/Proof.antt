@@ -2,7 +2,8 @@
 use mathlib.Core.Path.{ap, _∙_}
 use lib.ListN.{length}
 use Rattle.profile.specs.Definition.{answer-number}
-use Rattle.decoder.specs.Definition.{reading, answer-to}
+use Rattle.reader.specs.Definition.{answer-to}
+use Rattle.decoder.specs.Definition.{reading}
 use Rattle.cabi.specs.Laws.{numbers-filled}
 use borrow.Author.Needs.{needs}
 use Rattle.cabi.proofs.gii_decode.Statement.{statement}

@@ -1,7 +1,7 @@
 -- What is answered and reported is what reading the block comes to.
 use Rattle.series.specs.Array.{bytes}
 use Rattle.staged.specs.Definition.{decode}
-use Rattle.decoder.specs.Definition.{concluded}
+use Rattle.reader.specs.Definition.{concluded}
 use Rattle.card.specs.Laws.{says-as, told-line}
 use borrow.Author.Needs.{needs}
 use Rattle.card.proofs.read_block.Statement.{statement}

@@ -2,7 +2,8 @@
 use mathlib.Core.Path.{sym, ap, _∙_}
 use native.Mathlib.Omega.{arith}
 use Rattle.decoder.specs.Definition.{judged}
-use Rattle.decoder.specs.Laws.{passed, gives-refused, gives-as}
+use Rattle.reader.specs.Laws.{gives-refused, gives-as}
+use Rattle.decoder.specs.Laws.{passed}
 use borrow.Author.Needs.{needs}
 use Rattle.decoder.proofs.decode.Statement.{statement}
 use Rattle.decoder.proofs.decode.Tie as tie

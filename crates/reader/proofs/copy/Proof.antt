@@ -4,10 +4,10 @@ use mathlib.Core.Path.{_≡_}
 use native.Mathlib.Omega.{arith}
 use lib.ListN.{length, getD, length-set}
 use lib.Seq.{ext-getD}
-use Rattle.decoder.specs.Laws.{copied-more}
+use Rattle.reader.specs.Laws.{copied-more}
 use borrow.Author.Needs.{needs}
-use Rattle.decoder.proofs.copy.Statement.{statement}
-use Rattle.decoder.proofs.copy.Tie as tie
+use Rattle.reader.proofs.copy.Statement.{statement}
+use Rattle.reader.proofs.copy.Tie as tie
 
 abbrev Inv-loop : tie.InvT-loop
 Inv-loop from to₀ i₀ to i = (i ≤ length from) × (length to ≡ length from) × ((k : ℕ) → k < i → getD to k 0 ≡ getD from k 0)

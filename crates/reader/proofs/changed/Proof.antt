@@ -5,10 +5,10 @@ use native.Mathlib.Omega.{arith}
 use lib.ListN.{length}
 use Rattle.staged.specs.Definition.{total, count-of}
 use Rattle.stages.specs.View.{says}
-use Rattle.decoder.specs.Laws.{changed-none, changed-more}
+use Rattle.reader.specs.Laws.{changed-none, changed-more}
 use borrow.Author.Needs.{needs}
-use Rattle.decoder.proofs.changed.Statement.{statement}
-use Rattle.decoder.proofs.changed.Tie as tie
+use Rattle.reader.proofs.changed.Statement.{statement}
+use Rattle.reader.proofs.changed.Tie as tie
 
 abbrev Inv-loop : tie.InvT-loop
 Inv-loop m lines sum₀ i₀ sum i = (i ≤ m) × (length lines ≡ 8) × (sum ≤ 255 * i) × (sum ≡ total i (λ k. count-of (says lines k)))

@@ -4,10 +4,10 @@ use native.Mathlib.Omega.{arith}
 use lib.ListN.{length}
 use lib.Seq.{length-take-le}
 use Rattle.code.specs.Check.{inside}
-use Rattle.decoder.specs.Laws.{gives-kept}
+use Rattle.reader.specs.Laws.{gives-kept}
 use borrow.Author.Needs.{needs}
-use Rattle.decoder.proofs.read.Statement.{statement}
-use Rattle.decoder.proofs.read.Tie as tie
+use Rattle.reader.proofs.read.Statement.{statement}
+use Rattle.reader.proofs.read.Tie as tie
 
 is-codeword-requires : tie.Need-is-codeword-requires
 is-codeword-requires c κs = search needs

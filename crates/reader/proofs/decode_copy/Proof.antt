@@ -1,9 +1,9 @@
 -- The copy is decoded, and stands for the input.
 use native.Mathlib.Omega.{arith}
-use Rattle.decoder.specs.Laws.{fits-same, reached-same}
+use Rattle.reader.specs.Laws.{fits-same, reached-same}
 use borrow.Author.Needs.{needs}
-use Rattle.decoder.proofs.decode_copy.Statement.{statement}
-use Rattle.decoder.proofs.decode_copy.Tie as tie
+use Rattle.reader.proofs.decode_copy.Statement.{statement}
+use Rattle.reader.proofs.decode_copy.Tie as tie
 
 copy-requires : tie.Need-copy-requires
 copy-requires c κs = c .before .before .before .before .pre .1

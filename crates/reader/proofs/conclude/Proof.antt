@@ -2,10 +2,10 @@
 use mathlib.Core.Path.{refl, sym, _∙_}
 use native.Mathlib.Omega.{arith}
 use Rattle.profile.specs.Laws.{unless, meets}
-use Rattle.decoder.specs.Laws.{gives-unsettled, gives-foreign, gives-read}
+use Rattle.reader.specs.Laws.{gives-unsettled, gives-foreign, gives-read}
 use borrow.Author.Needs.{needs}
-use Rattle.decoder.proofs.conclude.Statement.{statement}
-use Rattle.decoder.proofs.conclude.Tie as tie
+use Rattle.reader.proofs.conclude.Statement.{statement}
+use Rattle.reader.proofs.conclude.Tie as tie
 
 refuse-requires : tie.Need-refuse-requires
 refuse-requires c κs = search needs
