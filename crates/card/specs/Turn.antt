@@ -3,6 +3,7 @@
 --   wanted s        how many bytes the section s has
 --   rest s c        what is printed for the rest c of a card, at the front of which s comes next
 --   Good s          a section that can come: its profile was accepted, and the number of its block is below the number of blocks
+--   kinds s         so many kinds of sections are left, the one of s among them
 --   ends s          a card may end where s comes next
 --   over s          all is printed
 --   left s          so many turns at most are left
@@ -11,8 +12,9 @@
 --
 use Prim.Native.Nat.{ℕ, suc, _-_, _≤_, _<_}
 use mathlib.Core.Path.{_≡_}
-use mathlib.Core.Bool.{Bool, true, false}
+use mathlib.Core.Bool.{Bool, false}
 use mathlib.Core.List.{List, [], _++_}
+use lib.Dec.{eqb, leb}
 use lib.ListN.{length, take, drop}
 use Rattle.profile.specs.declared.Profile.{Profile}
 use Rattle.profile.specs.declared.Answer.{Answer}
@@ -49,23 +51,19 @@ Good (Block p i k) = Valid p × (i < k)
 Good End = Unit {0}
 Good Over = Unit {0}
 
--- the card may end here
-abbrev pub ends : Section → Bool
-ends Size = false
-ends Bytes = false
-ends (Count p) = false
-ends (Block p i k) = false
-ends End = true
-ends Over = true
+abbrev pub kinds : Section → ℕ
+kinds Size = 5
+kinds Bytes = 4
+kinds (Count p) = 3
+kinds (Block p i k) = 2
+kinds End = 1
+kinds Over = 0
 
--- all is printed
+abbrev pub ends : Section → Bool
+ends s = leb (kinds s) 1
+
 abbrev pub over : Section → Bool
-over Size = false
-over Bytes = false
-over (Count p) = false
-over (Block p i k) = false
-over End = false
-over Over = true
+over s = eqb (kinds s) 0
 
 abbrev pub left : Section → ℕ
 left Size = 65539

@@ -8,7 +8,7 @@ ghost use Rattle.profile.specs.Valid.{Valid};
 ghost use Rattle.code.specs.Check.{Fits};
 ghost use Rattle.listing.specs.Definition.{card-line, Says};
 ghost use Rattle.card.specs.Definition.{block-line as BlockLine};
-ghost use Rattle.card.specs.Turn.{wanted as Wanted, Good, ends, over, Turns, Comes, told};
+ghost use Rattle.card.specs.Turn.{wanted as Wanted, Good, kinds as Kinds, ends, over, Turns, Comes, told};
 use listing::LINE;
 use profile::Answer;
 use profile::Parsed;
@@ -63,32 +63,32 @@ pub fn wanted(s: Section) -> usize
     }
 }
 
+// How many kinds of sections are left, this one among them.
+fn kinds(s: Section) -> u8
+    ensures { λ n. ⌜ n ≡ Kinds s ⌝ }
+{
+    match s {
+        Section::Size => 5,
+        Section::Bytes => 4,
+        Section::Count(_) => 3,
+        Section::Block(_, _, _) => 2,
+        Section::End => 1,
+        Section::Over => 0,
+    }
+}
+
 // Whether all is printed.
 pub fn is_over(s: Section) -> bool
     ensures { λ b. ⌜ b ≡ over s ⌝ }
 {
-    match s {
-        Section::Size => false,
-        Section::Bytes => false,
-        Section::Count(_) => false,
-        Section::Block(_, _, _) => false,
-        Section::End => false,
-        Section::Over => true,
-    }
+    kinds(s) == 0
 }
 
 // Whether a card may end here.
 fn may_end(s: Section) -> bool
     ensures { λ b. ⌜ b ≡ ends s ⌝ }
 {
-    match s {
-        Section::Size => false,
-        Section::Bytes => false,
-        Section::Count(_) => false,
-        Section::Block(_, _, _) => false,
-        Section::End => true,
-        Section::Over => true,
-    }
+    kinds(s) <= 1
 }
 
 // A card is refused: its last line.

@@ -1,3 +1,4 @@
+-- No round if none is pending, or too many.
 use Prim.Native.Nat.{_-_}
 use mathlib.Core.Path.{sym, ap, _∙_}
 use lib.Dec.{leb}

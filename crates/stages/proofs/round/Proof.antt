@@ -1,3 +1,4 @@
+-- From the capability of the stage to that of the next.
 use Prim.Native.Nat.{suc, _*_}
 use mathlib.Core.Path.{ap, ap₂, _∙_}
 use native.Mathlib.Numerals.{add-one}

@@ -1,3 +1,4 @@
+-- Eight times the same line.
 use Rattle.stages.specs.Lines.{started}
 use borrow.Author.Needs.{needs}
 use Rattle.stages.proofs.start.Statement.{statement}

@@ -1,3 +1,4 @@
+-- After stage 0 no subword is called clean.
 use mathlib.Core.Path.{_∙_}
 use Rattle.turn.specs.Turn.{clean-later, clean-first}
 use borrow.Author.Needs.{needs}

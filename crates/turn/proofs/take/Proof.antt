@@ -1,3 +1,4 @@
+-- Still pending, or settled and corrected.
 use Rattle.profile.specs.Laws.{unless, meets}
 use Rattle.turn.specs.Turn.{took-none, took-some}
 use borrow.Author.Needs.{needs}

@@ -1,3 +1,4 @@
+-- Settled already, clean, or attempted.
 use mathlib.Core.Path.{refl, sym, _∙_}
 use mathlib.Core.Bool.{true≢false}
 use Rattle.syndromes.specs.Zero.{zero-row}

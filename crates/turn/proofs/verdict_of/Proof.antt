@@ -1,3 +1,4 @@
+-- Clean is no change at stage 0.
 use native.Mathlib.Omega.{arith}
 use Rattle.turn.specs.Turn.{clean-is, corrected-is}
 use Rattle.turn.proofs.verdict_of.Statement.{statement}
