@@ -2,42 +2,80 @@
 ghost use Prim.Native.Nat.{_+_, _≤_, _<_};
 ghost use mathlib.Core.Path.{_≡_};
 ghost use lib.ListN.{length};
-ghost use Rattle.field.specs.Field.{_⊙_, inv, val};
-ghost use Rattle.series.specs.Series.{_⊞_};
+ghost use Rattle.field.specs.Field.{α, _⊙_, pow, of};
+ghost use Rattle.series.specs.Series.{K, _⊞_, _⊠_};
 ghost use Rattle.series.specs.Shift.{cut, drop};
 ghost use Rattle.series.specs.Array.{bytes};
 ghost use Rattle.profile.specs.Definition.{checks as Checks, room as Room};
 ghost use Rattle.generator.specs.Table.{Table};
-ghost use Rattle.code.specs.Newton.{newton as Newton};
-ghost use Rattle.code.specs.Triangle.{carried as Carried};
+ghost use Rattle.code.specs.Definition.{subword};
+ghost use Rattle.code.specs.Triangle.{carried as Carried, corner as Corner};
 ghost use Rattle.code.specs.Check.{Fits};
 ghost use Rattle.carry.specs.Subword.{filled, Wrote};
 use code::POSITIONS;
-use field::Exponent;
-use field::Gf;
 use profile::Profile;
 
-// (x + α^0) .. (x + α^(i-1)) at x = α^k: Newton's polynomial i.
-fn newton(i: usize, k: usize) -> Gf
-    ensures { λ r. ⌜ val r ≡ Newton i k ⌝ }
+// α^l times a symbol.
+fn raised(l: usize, x: u8) -> u8
+    requires { ⌜ (1 ≤ l) × (l ≤ 2) ⌝ }
+    ensures { λ r. ⌜ of r ≡ pow α l ⊙ of x ⌝ }
 {
-    let x = Exponent(k).power();
-    let mut b = Gf::ONE;
-    let mut j: usize = 0;
-    while j < i {
-        let y = Exponent(j).power();
-        b = b.product(x.sum(y));
-        j = j + 1;
+    let y = kernel::twice(x);
+    if l == 1 {
+        return y;
     }
-    b
+    kernel::twice(y)
 }
 
-// How much of subword k is brought to subword i, i below v.
-fn ratio(i: usize, k: usize) -> Gf
-    ensures { λ r. ⌜ val r ≡ Newton i k ⊙ inv (Newton i i) ⌝ }
+// A step of Pascal's rule: α^l times the word, and another word. Nothing is promised of a word past the last one that is asked for.
+fn rise(l: usize, last: usize, from: &[u8], word: &mut [u8])
+    requires { ⌜ (1 ≤ l) × (l ≤ 2) × (length (now from) ≡ length (now word)) ⌝ }
+    ensures { λ _. ⌜ (l ≤ last → bytes (now (word .exit)) ≡ K (pow α l) ⊠ bytes (now (word .entry)) ⊞ bytes (now (from .entry))) ⌝ }
 {
-    let d = newton(i, i).inverse();
-    newton(i, k).product(d)
+    if last < l {
+        return;
+    }
+    let mut q: usize = 0;
+    while q < word.len() {
+        word[q] = raised(l, word[q]) ^ from[q];
+        q = q + 1;
+    }
+}
+
+// Subword i of a block is added to the word.
+fn add_subword(p: Profile, block: &[u8], i: usize, word: &mut [u8])
+    requires { ⌜ Fits p (now block) × (i < p .subwords) × (p .length ≤ length (now word)) ⌝ }
+    ensures { λ _. ⌜ bytes (now (word .exit)) ≡ bytes (now (word .entry)) ⊞ cut (p .length) (subword (p .length) (bytes (now (block .entry))) i) ⌝ }
+{
+    let n = p.length as usize;
+    let a = i * n;
+    let e = a + n;
+    kernel::add(&block[a..e], &mut word[..n]);
+}
+
+// Subword i with what the subwords above bring to it, i below v. By Pascal's rule, from the last subword to the first: that takes doublings only, and the
+// subwords below i fall out.
+fn corner(p: Profile, i: usize, block: &[u8]) -> [u8; POSITIONS]
+    requires { ⌜ Fits p (now block) × (i < p .nested) ⌝ }
+    ensures { λ r. ⌜ bytes r ≡ cut (p .length) (Corner p (bytes (now (block .entry))) i) ⌝ }
+{
+    let mut a = [0u8; POSITIONS];
+    let mut b = [0u8; POSITIONS];
+    let mut c = [0u8; POSITIONS];
+    let mut j = p.subwords as usize;
+    while j > 0 {
+        j = j - 1;
+        rise(2, i, &b, &mut c);
+        rise(1, i, &a, &mut b);
+        add_subword(p, block, j, &mut a);
+    }
+    if i == 0 {
+        return a;
+    }
+    if i == 1 {
+        return b;
+    }
+    c
 }
 
 // What the subwords above i bring to subword i: nothing from subword v on.
@@ -45,18 +83,11 @@ fn carried(p: Profile, i: usize, block: &[u8]) -> [u8; POSITIONS]
     requires { ⌜ Fits p (now block) × (i < p .subwords) ⌝ }
     ensures { λ r. ⌜ bytes r ≡ cut (p .length) (Carried p (bytes (now (block .entry))) i) ⌝ }
 {
-    let m = p.subwords as usize;
-    let v = p.nested as usize;
-    let mut word = [0u8; POSITIONS];
-    if v <= i {
-        return word;
+    if p.nested as usize <= i {
+        return [0u8; POSITIONS];
     }
-    let mut k = i + 1;
-    while k < m {
-        let c = ratio(i, k);
-        code::add_subword(p, c, block, k, &mut word);
-        k = k + 1;
-    }
+    let mut word = corner(p, i, block);
+    add_subword(p, block, i, &mut word);
     word
 }
 
