@@ -105,7 +105,7 @@ fn place(k: usize, e: &[u8], input: &[u8], word: &mut [u8])
 
 // The word is e plus the Reed-Solomon word of the data plus e.
 fn fill(t: &[u64], k: usize, e: &[u8], input: &[u8], word: &mut [u8])
-    requires { ⌜ Table k (now t) × (k ≤ 48) × (length (now word) ≡ k + length (now input)) × (length (now e) ≡ length (now word)) ⌝ }
+    requires { ⌜ Table 0 k (now t) × (k ≤ 48) × (length (now word) ≡ k + length (now input)) × (length (now e) ≡ length (now word)) ⌝ }
     ensures { λ _. ⌜ bytes (now (word .exit)) ≡ filled (length (now (word .entry))) k (bytes (now (input .entry))) (bytes (now (e .entry))) ⌝ }
 {
     place(k, e, input, word);
@@ -115,7 +115,7 @@ fn fill(t: &[u64], k: usize, e: &[u8], input: &[u8], word: &mut [u8])
 
 // Subword i, once those above it are written.
 pub fn write_subword(p: Profile, t: &[u64], i: usize, input: &[u8], out: &mut [u8])
-    requires { ⌜ Fits p (now out) × (i < p .subwords) × Table (Checks p i) (now t) × (length (now input) ≡ Room p i) ⌝ }
+    requires { ⌜ Fits p (now out) × (i < p .subwords) × Table 0 (Checks p i) (now t) × (length (now input) ≡ Room p i) ⌝ }
     ensures { λ _. ⌜ Wrote p (bytes (now (input .entry))) i (bytes (now (out .entry))) (bytes (now (out .exit))) ⌝ }
 {
     let n = p.length as usize;

@@ -33,10 +33,10 @@ use Rattle.series.specs.Value.{value-more, value-zero}
 use Rattle.polynomial.specs.Polynomial.{row, row-zeros}
 use Rattle.profile.specs.declared.Profile.{Profile}
 use Rattle.profile.specs.Definition.{checks, block-size}
-use Rattle.profile.specs.Valid.{Valid, checks-is, checks-high, checks-most, checks-room}
+use Rattle.profile.specs.Valid.{Valid, checks-is, checks-high, checks-most}
 use Rattle.reed_solomon.specs.Definition.{root, syndrome}
 use Rattle.reed_solomon.specs.Systematic.{syndrome-is, syndrome-cong}
-use Rattle.reed_solomon.specs.Residue.{residue, below-residue, residue-cong, residue-syndrome}
+use Rattle.reed_solomon.specs.Residue.{residue, below-residue, residue-cong, residue-first}
 use Rattle.code.specs.Definition.{subword, nested, Codeword}
 use Rattle.code.specs.Encoding.{codeword?}
 use Rattle.code.specs.Triangle.{checked-triangle, triangle-codeword}
@@ -119,20 +119,17 @@ module _ (p : Profile) (s : Series) where
         (λ l u j q. rw (sums-low l u) at (h l (omega arith) j (omega (arith, checks-is p l)))))
 
     -- word w by its remainder, which the array r holds
-    module _ (w k : ℕ) (r : List ℕ) (count : k ≡ checks p w) (is : bytes r ≡ residue (p .length) k (sums p s w)) where
+    module _ (w k : ℕ) (r : List ℕ) (count : k ≡ checks p w) (is : bytes r ≡ residue 0 (p .length) k (sums p s w)) where
       small : k < 255
       small = omega (arith, count, checks-most p ok w)
-
-      room : k ≤ p .length
-      room = omega (arith, count, checks-room p ok w)
 
       -- a syndrome of the remainder is the word's
       pub word-syndrome : (j : ℕ) → j < k → k ≤ length r → syndrome (length r) (bytes r) j ≡ syndrome (p .length) (sums p s w) j
       word-syndrome j h long =
           ap (λ (f : Series). syndrome (length r) f j) is
           ∙ syndrome-is (length r) _ j
-          ∙ value-more k (length r) _ (root j) (below-residue (p .length) k (sums p s w)) long
-          ∙ residue-syndrome (p .length) k (sums p s w) small room j h
+          ∙ value-more k (length r) _ (root j) (below-residue 0 (p .length) k (sums p s w)) long
+          ∙ residue-first (p .length) k (sums p s w) small j h
 
       pub zeros-vanish : k ≤ length r → ((j : ℕ) → j < k → syndrome (length r) (bytes r) j ≡ 𝟎) → Vanish p s w
       zeros-vanish long z j h = sym (word-syndrome j (omega (arith, count)) long) ∙ z j (omega (arith, count))
@@ -154,10 +151,10 @@ pub prefix-syndrome : (n : ℕ) (l : List ℕ) (g : Series) (j : ℕ) → n ≤ 
 prefix-syndrome n l g j h e =
     ap (λ k. syndrome k (bytes (take n l)) j) (length-take-le n l h) ∙ syndrome-cong n _ g (prefix-at n l g e) j
 
-pub prefix-residue : (n k : ℕ) (l : List ℕ) (g : Series) → k ≤ n → n ≤ length l → bytes l ≡ cut n g
-    → residue (length (take n l)) k (bytes (take n l)) ≡ residue n k g
-prefix-residue n k l g r h e =
-    ap (λ m. residue m k (bytes (take n l))) (length-take-le n l h) ∙ residue-cong n k _ g r (prefix-at n l g e)
+pub prefix-residue : (n k : ℕ) (l : List ℕ) (g : Series) → n ≤ length l → bytes l ≡ cut n g
+    → residue 0 (length (take n l)) k (bytes (take n l)) ≡ residue 0 n k g
+prefix-residue n k l g h e =
+    ap (λ m. residue 0 m k (bytes (take n l))) (length-take-le n l h) ∙ residue-cong 0 n k _ g (prefix-at n l g e)
 
 -- ---- a subword as a part of the block, k being the number of its symbols that the code has
 
@@ -176,10 +173,10 @@ pub part-syndrome : (n i k : ℕ) (b : List ℕ) → k ≡ n → i * n + n ≤ l
 part-syndrome n i k b e h =
     ap (λ l. syndrome l (bytes (take k (drop (i * n) b)))) (part-length n i k b e h) ∙ fun-ext (syndrome-cong n _ _ (part-at n i k b e h))
 
-pub part-residue : (n i k : ℕ) (b : List ℕ) (r : ℕ) → r ≤ n → k ≡ n → i * n + n ≤ length b
-    → residue (length (take k (drop (i * n) b))) r (bytes (take k (drop (i * n) b))) ≡ residue n r (subword n (bytes b) i)
-part-residue n i k b r room e h =
-    ap (λ l. residue l r (bytes (take k (drop (i * n) b)))) (part-length n i k b e h) ∙ residue-cong n r _ _ room (part-at n i k b e h)
+pub part-residue : (n i k : ℕ) (b : List ℕ) (r : ℕ) → k ≡ n → i * n + n ≤ length b
+    → residue 0 (length (take k (drop (i * n) b))) r (bytes (take k (drop (i * n) b))) ≡ residue 0 n r (subword n (bytes b) i)
+part-residue n i k b r e h =
+    ap (λ l. residue 0 l r (bytes (take k (drop (i * n) b)))) (part-length n i k b e h) ∙ residue-cong 0 n r _ _ (part-at n i k b e h)
 
 -- ---- a remainder of which no syndrome is looked at
 

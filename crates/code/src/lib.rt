@@ -87,7 +87,7 @@ pub fn nested_word(p: Profile, block: &[u8], l: usize) -> [u8; POSITIONS]
 
 // The same, by a table for k.
 fn syndrome_rows(p: Profile, t: &[u64], block: &[u8], k: usize) -> [[Gf; SYNDROMES]; SUBWORDS]
-    requires { ⌜ Fits p (now block) × Table k (now t) × (k ≤ 48) × (k ≤ p .length) ⌝ }
+    requires { ⌜ Fits p (now block) × Table 0 k (now t) × (k ≤ 48) × (k ≤ p .length) ⌝ }
     ensures { λ r. ⌜ table r ≡ received p (bytes (now (block .entry))) k ⌝ }
 {
     let n = p.length as usize;
@@ -109,24 +109,24 @@ pub fn syndromes(p: Profile, block: &[u8], k: usize) -> [[Gf; SYNDROMES]; SUBWOR
     ensures { λ r. ⌜ table r ≡ received p (bytes (now (block .entry))) k ⌝ }
 {
     let mut t = generator::room();
-    generator::table(k, &mut t);
+    generator::table(0, k, &mut t);
     syndrome_rows(p, &t, block, k)
 }
 
 // The remainder of word w of the codeword check: nested word w below v, and from there on subword w, which is a part of the block.
 fn residue_of(p: Profile, t: &[u64], k: usize, block: &[u8], w: usize) -> [u8; SYNDROMES]
-    requires { ⌜ Fits p (now block) × Table k (now t) × (k ≤ 48) × (k ≤ p .length) × (w < p .subwords) ⌝ }
-    ensures { λ r. ⌜ bytes r ≡ Residue (p .length) k (sums p (bytes (now (block .entry))) w) ⌝ }
+    requires { ⌜ Fits p (now block) × Table 0 k (now t) × (k ≤ 48) × (k ≤ p .length) × (w < p .subwords) ⌝ }
+    ensures { λ r. ⌜ bytes r ≡ Residue 0 (p .length) k (sums p (bytes (now (block .entry))) w) ⌝ }
 {
     let n = p.length as usize;
     let v = p.nested as usize;
     if w < v {
         let word = nested_word(p, block, w);
-        return reed_solomon::residue(t, k, &word[..n]);
+        return reed_solomon::residue(t, 0, k, &word[..n]);
     }
     let a = w * n;
     let e = a + n;
-    reed_solomon::residue(t, k, &block[a..e])
+    reed_solomon::residue(t, 0, k, &block[a..e])
 }
 
 // How many syndromes of a remainder are looked at: none if it is zero, else all k.

@@ -5,7 +5,7 @@
 --
 -- Proved: a loop over an array's symbols, the last first, begins by remainder-start and goes on by remainder-step. The remainder has degree below 48
 -- and, at every root of z^48 + low, the value of what it is the remainder of (remainder-value). A polynomial of lower degree k stands at the top,
--- times z^(48 - k): so does the remainder by it (below-remainder-top, remainder-top).
+-- times z^(48 - k): so does the remainder by it (remainder-top).
 use Prim.Native.Nat.{ℕ, zero, suc, _+_, _-_, _≤_, _<_}
 use mathlib.Core.Path.{_≡_, refl, sym, ap, ap₂, _∙_}
 use mathlib.Core.Logic.{_≢_}
@@ -15,7 +15,7 @@ use lib.ListN.{length, getD}
 use Rattle.field.specs.Field.{F, 𝟎, _⊕_, _⊙_, of, zero-⊕, ⊙-zero, ⊙-assoc, ⊙-cancel, ⊙-ring, pow, pow-add, pow-nonzero}
 use Rattle.series.specs.Series.{Series, O, K, Z, _⊞_, _⊠_, tail, ⊠-ring, O-at, ⊞-at, K-⊠-at, Z-⊠-at0, Z-⊠-at}
 use Rattle.series.specs.Shift.{zpow, drop, cut, zpow-suc, zpow-low, zpow-other, zpow-divide, drop-at0, drop-suc, drop-zpow, cut-suc}
-use Rattle.series.specs.Degree.{below, below-O, below-⊞, below-⊠, below-K-⊠, below-Z-⊠, below-cut, below-cut-eq, below-drop, below-zpow}
+use Rattle.series.specs.Degree.{below, below-O, below-⊞, below-⊠, below-K-⊠, below-Z-⊠, below-cut, below-cut-eq, below-zpow}
 use Rattle.series.specs.Array.{bytes, read-at}
 use Rattle.series.specs.Value.{value, value-none, value-head, value-more, value-zero, value-split, value-⊞, value-K-⊠, value-Z-⊠, value-zpow}
 
@@ -124,10 +124,6 @@ pow-top k a h =
 
 below-top : (k : ℕ) (g : Series) → k ≤ 48 → below k g → below 48 (zpow (48 - k) ⊠ g)
 below-top k g h b = below-⊠ (suc (48 - k)) k 48 (zpow (48 - k)) g (below-zpow (48 - k)) b (omega arith)
-
-pub below-remainder-top : (k : ℕ) (g low : Series) (n : ℕ) (w : Series) → k ≤ 48 → low ≡ zpow (48 - k) ⊠ g → below k g
-    → below k (drop (48 - k) (remainder low n w))
-below-remainder-top k g low n w h q b i l = below-drop 48 (48 - k) _ (below-remainder low n w (rw q (below-top k g h b))) i (omega arith)
 
 pub remainder-top : (k : ℕ) (g low : Series) (n : ℕ) (w : Series) (a : F) → k ≤ 48 → low ≡ zpow (48 - k) ⊠ g → below k g → a ≢ 𝟎
     → value k g a ≡ pow a k → value k (drop (48 - k) (remainder low n w)) a ≡ pow a k ⊙ value n w a

@@ -3,7 +3,7 @@
 --   stretch f   the polynomial f with αz for z
 --   Zech l      entry i of the array l, i below 48, is the exponent of α^(i+1) + 1: Zech's logarithms
 --
--- Proved: the generator of k + 1 roots, stretched, is that of k roots times z + 1 and a constant (stretched), since the roots are consecutive powers of α.
+-- Proved: the generator of k + 1 roots, stretched, is that of k roots times z + α^first and a constant (stretched), since the roots are consecutive powers of α.
 -- So a coefficient is known from the one above it (coefficient-below), its exponent from that one's (exponent-more). A loop that stores the
 -- coefficients from the top down goes on by back-more and ends with the generator (back-all).
 use Prim.Native.Nat.{ℕ, zero, suc, _+_, _-_, _≤_, _<_}
@@ -51,10 +51,6 @@ stretch-factor a f = fun-ext at-i ∙ shape (stretch f)
     at-i zero = rw (⊞-⊠, ⊞-at, ⊞-at, K-⊠-at, K-⊠-at, Z-⊠-at0, Z-⊠-at0) (simp ⊙-ring)
     at-i (suc i) = rw (⊞-⊠, ⊞-at, ⊞-at, K-⊠-at, K-⊠-at, Z-⊠-at, Z-⊠-at, K-⊠-at, pow-suc) (simp ⊙-ring)
 
-root-zero : root 0 ≡ α
-unfolding root
-root-zero = pow-one α
-
 root-power : (k : ℕ) → root k ≡ α ⊙ pow α k
 unfolding root
 root-power k = ap (pow α) (add-one k) ∙ pow-suc α k
@@ -62,72 +58,84 @@ root-power k = ap (pow α) (add-one k) ∙ pow-suc α k
 root-suc : (k : ℕ) → root (suc k) ≡ α ⊙ root k
 root-suc k = root-power (suc k) ∙ ap (λ (s : F). α ⊙ s) (pow-suc α k ∙ sym (root-power k))
 
-stretched : (k : ℕ) → stretch (generator (suc k)) ≡ K (root k) ⊠ ((Z ⊞ K 𝟏) ⊠ generator k)
-unfolding generator
-stretched zero = stretch-factor (root 0) (K 𝟏) ∙ rw (stretch-one, root-zero) (simp ⊠-ring)
-stretched (suc k) = stretch-factor (root (suc k)) _ ∙ rw (stretched k, root-suc) (shape (root k) (generator k))
-  where
-    shape : (r : F) (g : Series)
-        → (K α ⊠ Z ⊞ K (α ⊙ r)) ⊠ (K r ⊠ ((Z ⊞ K 𝟏) ⊠ g)) ≡ K (α ⊙ r) ⊠ ((Z ⊞ K 𝟏) ⊠ ((Z ⊞ K r) ⊠ g))
-    shape r g = simp ⊠-ring
-
--- ---- a coefficient from the one above it
-
-coefficient-more : (k i : ℕ) → generator (suc k) (suc i) ≡ generator k i ⊕ root k ⊙ generator k (suc i)
-unfolding generator
-coefficient-more k i = rw (⊞-⊠, ⊞-at, Z-⊠-at, K-⊠-at)
-
-coefficient-stretched : (k i : ℕ) → root i ⊙ generator (suc k) (suc i) ≡ root k ⊙ (generator k i ⊕ generator k (suc i))
-unfolding stretch
-coefficient-stretched k i =
-    ap (λ (s : F). s ⊙ generator (suc k) (suc i)) (root-power i ∙ sym (pow-suc α i))
-    ∙ ap (λ (f : Series). f (suc i)) (stretched k)
-    ∙ rw (K-⊠-at, ⊞-⊠, ⊞-at, Z-⊠-at, K-⊠-at) (simp ⊙-ring)
-
-coefficient-rule : (k i : ℕ) → pow α k ⊙ ((root i ⊕ 𝟏) ⊙ generator k (suc i)) ≡ (pow α k ⊕ pow α i) ⊙ generator k i
-coefficient-rule k i =
-    ⊙-cancel α alpha≢zero (⊕-lc
-    (ap (λ (s : F). root i ⊙ s) (sym (coefficient-more k i)) ∙ coefficient-stretched k i)
-    (rw (root-power k, root-power i) (simp ⊙-ring)))
-
--- from the top, with j coefficients above it
-coefficient-below : (k j : ℕ) → j < k
-    → (root j ⊕ 𝟏) ⊙ generator k (k - (j + 1)) ≡ root j ⊙ ((root (k - (j + 1)) ⊕ 𝟏) ⊙ generator k (k - j))
+root-add : (first k : ℕ) → root (first + k) ≡ pow α first ⊙ root k
 unfolding root
-coefficient-below k j h =
-    let e : k ≡ j + 1 + i = omega arith in
-    let d : k - j ≡ suc i = omega arith in
-    ⊙-cancel (pow α i) (power-nonzero i)
-    (sym (rw d (shape (pow α i) (root j) (root i ⊕ 𝟏) (generator k (suc i))
-    ∙ ap (λ (s : F). s ⊙ ((root i ⊕ 𝟏) ⊙ generator k (suc i))) (sym (ap (pow α) e ∙ pow-add α (j + 1) i))
-    ∙ coefficient-rule k i
-    ∙ ap (λ (s : F). (s ⊕ pow α i) ⊙ generator k i) (ap (pow α) e ∙ pow-add α (j + 1) i)
-    ∙ last (pow α i) (root j) (generator k i))))
-  where
-    i : ℕ
-    i = k - (j + 1)
+root-add first k = let e : first + k + 1 ≡ first + (k + 1) = omega arith in ap (pow α) e ∙ pow-add α first (k + 1)
 
-    shape : (x a b g : F) → x ⊙ (a ⊙ (b ⊙ g)) ≡ a ⊙ x ⊙ (b ⊙ g)
-    shape x a b g = simp ⊙-ring
+module _ (first : ℕ) where
+  stretched : (k : ℕ) → stretch (generator first (suc k)) ≡ K (root k) ⊠ ((Z ⊞ K (pow α first)) ⊠ generator first k)
+  unfolding generator
+  stretched zero = stretch-factor (root (first + 0)) (K 𝟏) ∙ rw (stretch-one, root-add, root-power, pow-zero) (shape (pow α first))
+    where
+      shape : (a : F) → (K α ⊠ Z ⊞ K (a ⊙ (α ⊙ 𝟏))) ⊠ K 𝟏 ≡ K (α ⊙ 𝟏) ⊠ ((Z ⊞ K a) ⊠ K 𝟏)
+      shape a = simp ⊠-ring
+  stretched (suc k) =
+      let e : first + suc k ≡ suc (first + k) = omega arith in
+      stretch-factor (root (first + suc k)) _ ∙ rw (stretched k, e, root-suc, root-suc) (shape (root k) (root (first + k)) (pow α first) (generator first k))
+    where
+      shape : (r s a : F) (g : Series)
+          → (K α ⊠ Z ⊞ K (α ⊙ s)) ⊠ (K r ⊠ ((Z ⊞ K a) ⊠ g)) ≡ K (α ⊙ r) ⊠ ((Z ⊞ K a) ⊠ ((Z ⊞ K s) ⊠ g))
+      shape r s a g = simp ⊠-ring
 
-    last : (x a g : F) → (a ⊙ x ⊕ x) ⊙ g ≡ x ⊙ ((a ⊕ 𝟏) ⊙ g)
-    last x a g = simp ⊙-ring
+  -- ---- a coefficient from the one above it
 
-pub coefficient-top : (k : ℕ) → generator k k ≡ 𝟏
-unfolding rest
-coefficient-top k = ⊕-lc (sym (⊞-at (generator k) (zpow k) k) ∙ below-rest k k (omega arith)) (rw zpow-one (simp ⊕-group))
+  coefficient-more : (k i : ℕ) → generator first (suc k) (suc i) ≡ generator first k i ⊕ root (first + k) ⊙ generator first k (suc i)
+  unfolding generator
+  coefficient-more k i = rw (⊞-⊠, ⊞-at, Z-⊠-at, K-⊠-at)
 
--- ---- in exponents
+  coefficient-stretched : (k i : ℕ)
+      → root i ⊙ generator first (suc k) (suc i) ≡ root k ⊙ (generator first k i ⊕ pow α first ⊙ generator first k (suc i))
+  unfolding stretch
+  coefficient-stretched k i =
+      ap (λ (s : F). s ⊙ generator first (suc k) (suc i)) (root-power i ∙ sym (pow-suc α i))
+      ∙ ap (λ (f : Series). f (suc i)) (stretched k)
+      ∙ rw (K-⊠-at, ⊞-⊠, ⊞-at, Z-⊠-at, K-⊠-at) (simp ⊙-ring)
 
-pub exponent-more : (k j e a b : ℕ) → j < k → b < 256 → pow α e ≡ generator k (k - j) → pow α a ≡ root (k - (j + 1)) ⊕ 𝟏 → pow α b ≡ root j ⊕ 𝟏
-    → pow α (e + (j + 256 + a) - b) ≡ generator k (k - (j + 1))
-unfolding root
-exponent-more k j e a b h small p q r =
-    let s : b + (e + (j + 256 + a) - b) ≡ 255 + (j + 1 + (a + e)) = omega arith in
-    ⊙-cancel (pow α b) (power-nonzero b)
-    (sym (pow-add α b _)
-    ∙ ap (pow α) s
-    ∙ rw (pow-add α 255, pow-add α (j + 1), pow-add α a, power-255, p, q, r) (one-⊙ _ ∙ sym (coefficient-below k j h)))
+  coefficient-rule : (k i : ℕ)
+      → pow α k ⊙ (pow α first ⊙ ((root i ⊕ 𝟏) ⊙ generator first k (suc i))) ≡ (pow α k ⊕ pow α i) ⊙ generator first k i
+  coefficient-rule k i =
+      ⊙-cancel α alpha≢zero (⊕-lc
+      (ap (λ (s : F). root i ⊙ s) (sym (coefficient-more k i)) ∙ coefficient-stretched k i)
+      (rw (root-add, root-power k, root-power i) (simp ⊙-ring)))
+
+  -- from the top, with j coefficients above it
+  coefficient-below : (k j : ℕ) → j < k
+      → (root j ⊕ 𝟏) ⊙ generator first k (k - (j + 1)) ≡ root j ⊙ (pow α first ⊙ ((root (k - (j + 1)) ⊕ 𝟏) ⊙ generator first k (k - j)))
+  unfolding root
+  coefficient-below k j h =
+      let e : k ≡ j + 1 + i = omega arith in
+      let d : k - j ≡ suc i = omega arith in
+      ⊙-cancel (pow α i) (power-nonzero i)
+      (sym (rw d (shape (pow α i) (root j) (pow α first ⊙ ((root i ⊕ 𝟏) ⊙ generator first k (suc i)))
+      ∙ ap (λ (s : F). s ⊙ (pow α first ⊙ ((root i ⊕ 𝟏) ⊙ generator first k (suc i)))) (sym (ap (pow α) e ∙ pow-add α (j + 1) i))
+      ∙ coefficient-rule k i
+      ∙ ap (λ (s : F). (s ⊕ pow α i) ⊙ generator first k i) (ap (pow α) e ∙ pow-add α (j + 1) i)
+      ∙ last (pow α i) (root j) (generator first k i))))
+    where
+      i : ℕ
+      i = k - (j + 1)
+
+      shape : (x a b : F) → x ⊙ (a ⊙ b) ≡ a ⊙ x ⊙ b
+      shape x a b = simp ⊙-ring
+
+      last : (x a g : F) → (a ⊙ x ⊕ x) ⊙ g ≡ x ⊙ ((a ⊕ 𝟏) ⊙ g)
+      last x a g = simp ⊙-ring
+
+  pub coefficient-top : (k : ℕ) → generator first k k ≡ 𝟏
+  unfolding rest
+  coefficient-top k = ⊕-lc (sym (⊞-at (generator first k) (zpow k) k) ∙ below-rest first k k (omega arith)) (rw zpow-one (simp ⊕-group))
+
+  -- ---- in exponents
+
+  pub exponent-more : (k j e a b : ℕ) → j < k → b < 256 → pow α e ≡ generator first k (k - j) → pow α a ≡ root (k - (j + 1)) ⊕ 𝟏
+      → pow α b ≡ root j ⊕ 𝟏 → pow α (e + (first + j + 256 + a) - b) ≡ generator first k (k - (j + 1))
+  unfolding root
+  exponent-more k j e a b h small p q r =
+      let s : b + (e + (first + j + 256 + a) - b) ≡ 255 + (j + 1 + (first + (a + e))) = omega arith in
+      ⊙-cancel (pow α b) (power-nonzero b)
+      (sym (pow-add α b _)
+      ∙ ap (pow α) s
+      ∙ rw (pow-add α 255, pow-add α (j + 1), pow-add α first, pow-add α a, power-255, p, q, r) (one-⊙ _ ∙ sym (coefficient-below k j h)))
 
 -- ---- Zech's logarithms
 
@@ -152,36 +160,37 @@ zech l t = record { at = λ i h. entry i h (and-both (ltb (getD l i 0) 255) _ (a
 
 -- ---- stored from the top down
 
-aligned-at : (k i : ℕ) → k ≤ 48 → i < k → aligned k (48 - k + i) ≡ generator k i
-unfolding aligned rest
-aligned-at k i h l = zpow-at (48 - k) (rest k) i ∙ ⊞-at (generator k) (zpow k) i ∙ ap (λ (s : F). generator k i ⊕ s) (zpow-other k i (omega arith)) ∙ ⊕-zero _
-
-below-aligned : (k : ℕ) → k ≤ 48 → below 48 (aligned k)
-unfolding aligned
-below-aligned k h = below-⊠ (suc (48 - k)) k 48 (zpow (48 - k)) (rest k) (below-zpow (48 - k)) (below-rest k) (omega arith)
-
-pub back-none : (k : ℕ) → k ≤ 48 → O ≡ zpow 48 ⊠ drop 48 (aligned k)
-back-none k h = sym (ap (λ (f : Series). zpow 48 ⊠ f) (below-none _ (below-drop 48 48 _ (below-aligned k h))) ∙ ⊠-zero _)
-
 upper-more : (n : ℕ) (w : Series) → zpow (suc n) ⊠ drop (suc n) w ⊞ K (w n) ⊠ zpow n ≡ zpow n ⊠ drop n w
 upper-more n w = sym (ap (λ (f : Series). zpow n ⊠ f) (head-tail (drop n w)) ∙ rw (drop-at0, ← drop-suc n w, zpow-suc) (simp ⊠-ring))
 
-pub back-more : (l : List ℕ) (k j v : ℕ) → k ≤ 48 → j < k → length l ≡ 48 → bytes l ≡ zpow (48 - j) ⊠ drop (48 - j) (aligned k)
-    → of v ≡ generator k (k - (j + 1)) → bytes (set l (48 - (j + 1)) v) ≡ zpow (48 - (j + 1)) ⊠ drop (48 - (j + 1)) (aligned k)
-back-more l k j v h m long e q =
-    let s : 48 - j ≡ suc n = omega arith in
-    let d : 48 - k + (k - (j + 1)) ≡ n = omega arith in
-    let here : of v ≡ aligned k n = q ∙ sym (aligned-at k (k - (j + 1)) h (omega arith)) ∙ ap (aligned k) d in
-    bytes-add l n v (aligned k n) (omega arith) (here ∙ sym (ap (λ (x : F). x ⊕ aligned k n) (none s) ∙ zero-⊕ _))
-    ∙ ap (λ (f : Series). f ⊞ K (aligned k n) ⊠ zpow n) (e ∙ ap (λ (m : ℕ). zpow m ⊠ drop m (aligned k)) s)
-    ∙ upper-more n (aligned k)
-  where
-    n : ℕ
-    n = 48 - (j + 1)
+module _ (first : ℕ) where
+  aligned-at : (k i : ℕ) → k ≤ 48 → i < k → aligned first k (48 - k + i) ≡ generator first k i
+  unfolding aligned rest
+  aligned-at k i h l = zpow-at (48 - k) (rest first k) i ∙ ⊞-at (generator first k) (zpow k) i ∙ ap (λ (s : F). generator first k i ⊕ s) (zpow-other k i (omega arith)) ∙ ⊕-zero _
 
-    none : 48 - j ≡ suc n → bytes l n ≡ 𝟎
-    none s = ap (λ (f : Series). f n) (e ∙ ap (λ (m : ℕ). zpow m ⊠ drop m (aligned k)) s) ∙ zpow-low (suc n) (drop (suc n) (aligned k)) n (omega arith)
+  below-aligned : (k : ℕ) → k ≤ 48 → below 48 (aligned first k)
+  unfolding aligned
+  below-aligned k h = below-⊠ (suc (48 - k)) k 48 (zpow (48 - k)) (rest first k) (below-zpow (48 - k)) (below-rest first k) (omega arith)
 
-pub back-all : (k : ℕ) → zpow (48 - k) ⊠ drop (48 - k) (aligned k) ≡ aligned k
-unfolding aligned
-back-all k = ap (λ (f : Series). zpow (48 - k) ⊠ f) (drop-zpow (48 - k) (rest k))
+  pub back-none : (k : ℕ) → k ≤ 48 → O ≡ zpow 48 ⊠ drop 48 (aligned first k)
+  back-none k h = sym (ap (λ (f : Series). zpow 48 ⊠ f) (below-none _ (below-drop 48 48 _ (below-aligned k h))) ∙ ⊠-zero _)
+
+  pub back-more : (l : List ℕ) (k j v : ℕ) → k ≤ 48 → j < k → length l ≡ 48 → bytes l ≡ zpow (48 - j) ⊠ drop (48 - j) (aligned first k)
+      → of v ≡ generator first k (k - (j + 1)) → bytes (set l (48 - (j + 1)) v) ≡ zpow (48 - (j + 1)) ⊠ drop (48 - (j + 1)) (aligned first k)
+  back-more l k j v h m long e q =
+      let s : 48 - j ≡ suc n = omega arith in
+      let d : 48 - k + (k - (j + 1)) ≡ n = omega arith in
+      let here : of v ≡ aligned first k n = q ∙ sym (aligned-at k (k - (j + 1)) h (omega arith)) ∙ ap (aligned first k) d in
+      bytes-add l n v (aligned first k n) (omega arith) (here ∙ sym (ap (λ (x : F). x ⊕ aligned first k n) (none s) ∙ zero-⊕ _))
+      ∙ ap (λ (f : Series). f ⊞ K (aligned first k n) ⊠ zpow n) (e ∙ ap (λ (m : ℕ). zpow m ⊠ drop m (aligned first k)) s)
+      ∙ upper-more n (aligned first k)
+    where
+      n : ℕ
+      n = 48 - (j + 1)
+
+      none : 48 - j ≡ suc n → bytes l n ≡ 𝟎
+      none s = ap (λ (f : Series). f n) (e ∙ ap (λ (m : ℕ). zpow m ⊠ drop m (aligned first k)) s) ∙ zpow-low (suc n) (drop (suc n) (aligned first k)) n (omega arith)
+
+  pub back-all : (k : ℕ) → zpow (48 - k) ⊠ drop (48 - k) (aligned first k) ≡ aligned first k
+  unfolding aligned
+  back-all k = ap (λ (f : Series). zpow (48 - k) ⊠ f) (drop-zpow (48 - k) (rest first k))

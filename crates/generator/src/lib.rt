@@ -1,6 +1,6 @@
-// The generator polynomial of k roots, and its table: what a word is divided by.
+// The generator polynomial of k roots, from one on, and its table: what a word is divided by.
 // What the promises speak of stands in specs/Table.antt.
-ghost use Prim.Native.Nat.{_≤_};
+ghost use Prim.Native.Nat.{_+_, _≤_};
 ghost use mathlib.Core.Path.{_≡_};
 ghost use lib.ListN.{length};
 ghost use Rattle.series.specs.Array.{bytes};
@@ -24,11 +24,11 @@ fn zech() -> [u8; 48]
     LOGARITHMS
 }
 
-// The generator of k roots without its top term, which stands where entry 48 would be. From the top down: a coefficient is the one above it, times
-// α^(j+1) (α^(k-j) + 1) / (α^(j+1) + 1), with j coefficients above that one. All are powers of α, and α^255 is 1.
-fn generator(k: usize) -> [u8; 48]
-    requires { ⌜ k ≤ 48 ⌝ }
-    ensures { λ r. ⌜ bytes r ≡ aligned k ⌝ }
+// The generator of the k roots from `first` on, without its top term, which stands where entry 48 would be. From the top down: a coefficient is the
+// one above it, times α^first α^(j+1) (α^(k-j) + 1) / (α^(j+1) + 1), with j coefficients above that one. All are powers of α, and α^255 is 1.
+fn generator(first: usize, k: usize) -> [u8; 48]
+    requires { ⌜ first + k ≤ 48 ⌝ }
+    ensures { λ r. ⌜ bytes r ≡ aligned first k ⌝ }
 {
     let z = zech();
     let mut g = [0u8; 48];
@@ -37,7 +37,7 @@ fn generator(k: usize) -> [u8; 48]
     while j < k {
         let up = kernel::wide(z[k - (j + 1)]);
         let down = kernel::wide(z[j]);
-        e = e + (j + 256 + up) - down;
+        e = e + (first + j + 256 + up) - down;
         j += 1;
         let c = Exponent(e).power();
         g[48 - j] = c.0;
@@ -46,26 +46,28 @@ fn generator(k: usize) -> [u8; 48]
 }
 
 // Room for a table.
-pub fn room() -> [u64; TABLE] {
+pub fn room() -> [u64; TABLE]
+    ensures { λ r. ⌜ length r ≡ 1536 ⌝ }
+{
     [0u64; TABLE]
 }
 
-// The table for words of k check symbols, made once for any number of words.
-pub fn table(k: usize, t: &mut [u64])
-    requires { ⌜ (k ≤ 48) × (length (now t) ≡ 1536) ⌝ }
-    ensures { λ _. ⌜ Table k (now (t .exit)) ⌝ }
+// The table for words with the k roots from `first` on, made once for any number of words.
+pub fn table(first: usize, k: usize, t: &mut [u64])
+    requires { ⌜ (first + k ≤ 48) × (length (now t) ≡ 1536) ⌝ }
+    ensures { λ _. ⌜ Table first k (now (t .exit)) ⌝ }
 {
-    let g = generator(k);
+    let g = generator(first, k);
     division::multiples(g, t);
 }
 
 // The table for k check symbols, made anew unless it was made for them; made for 0 is room that holds none yet.
 pub fn prepare(t: &mut [u64], made: usize, k: usize)
     requires { ⌜ Made made (now t) × (1 ≤ k) × (k ≤ 48) ⌝ }
-    ensures { λ _. ⌜ Table k (now (t .exit)) ⌝ }
+    ensures { λ _. ⌜ Table 0 k (now (t .exit)) ⌝ }
 {
     if made == k {
         return;
     }
-    table(k, t);
+    table(0, k, t);
 }

@@ -1,10 +1,11 @@
--- The remainder of a word by the generator of k roots, and what it tells of the word.
+-- The remainder of a word by the generator of k roots, from root `first` on, and what it tells of the word.
 --
---   residue n k w   that remainder: what the first k symbols of w differ by from the check symbols that the others ask for
+--   residue first n k w   that remainder: the one polynomial of degree below k with the word's values at these roots
 --
--- Proved: it is found by the table (residue-table); it has the word's first k syndromes (residue-syndrome, residue-syndromes), so a word whose remainder is
--- zero has none (residue-none, residue-clean); it depends on the first n symbols (residue-cong). An array of bytes is zero or not by the bits of its
--- entries, taken together: a loop that gathers them goes on by bits-more.
+-- Proved: it has the word's syndromes first to first + k - 1 (residue-syndrome; residue-syndromes from an array), so a word whose remainder is zero
+-- has none (residue-none, residue-clean); it is found by the table (residue-table) and depends on the first n symbols (residue-cong). With the first k roots:
+-- a word and its remainder make the systematic word (residue-systematic). An array of bytes is zero or not by the bits of its entries, taken
+-- together: a loop that gathers them goes on by bits-more.
 use Prim.Native.Nat.{ℕ, _+_, _-_, _≤_, _<_}
 use mathlib.Core.Path.{_≡_, refl, sym, ap, ap₂, _∙_, fun-ext}
 use mathlib.Core.Logic.{_≢_, by-cases}
@@ -15,87 +16,108 @@ use borrow.Author.Count.{below-none, below-more}
 use lib.Bits.{bitAnd, bitOr, or-add-and, and-le-l, and-le-r}
 use lib.ListN.{length, getD, take}
 use lib.Seq.{length-take-le}
-use Rattle.field.specs.Field.{F, 𝟎, _⊕_, of, of-zero, of-nonzero, ⊕-zero, zero-⊕, ⊕-group}
-use Rattle.series.specs.Series.{Series, O, O-at, _⊞_, ⊞-at}
-use Rattle.series.specs.Shift.{drop, cut, cut-low, cut-unique, cut-⊞}
-use Rattle.series.specs.Degree.{below, below-cut, below-cut-eq, below-⊞}
+use Rattle.field.specs.Field.{F, 𝟎, _⊕_, _⊙_, of, of-zero, of-nonzero, ⊕-group, pow, power-nonzero}
+use Rattle.series.specs.Series.{Series, O, O-at, _⊞_, _⊠_, ⊞-group}
+use Rattle.series.specs.Shift.{zpow, drop, cut, cut-low, cut-unique, cut-drop}
+use Rattle.series.specs.Degree.{below, below-cut, below-⊞}
 use Rattle.series.specs.Array.{bytes, read-at, below-read}
 use Rattle.series.specs.Part.{read-take}
-use Rattle.series.specs.Value.{value, value-more, value-cong, value-zero}
-use Rattle.series.specs.Interpolation.{interpolate}
+use Rattle.series.specs.Value.{value, value-more, value-cong, value-zero, value-split, value-⊞}
+use Rattle.series.specs.Interpolation.{interpolate, interpolate-at, interpolate-is, below-interpolate}
 use Rattle.kernel.specs.Store.{cut-cong}
-use Rattle.division.specs.Remainder.{remainder}
+use Rattle.division.specs.Remainder.{remainder, remainder-top}
 use Rattle.division.specs.Multiples.{lower}
+use Rattle.generator.specs.Generator.{rest, aligned, below-rest, rest-value}
 use Rattle.generator.specs.Table.{Table}
 use Rattle.reed_solomon.specs.Definition.{root, syndrome, upper, check-symbols, systematic}
-use Rattle.reed_solomon.specs.Systematic.{syndrome-is, syndrome-cong, syndrome-⊞, upper-low, upper-high}
-use Rattle.reed_solomon.specs.Systematic.{below-check-symbols, systematic-low, systematic-data, systematic-zero}
-use Rattle.reed_solomon.specs.Encoder.{remainder-checks}
+use Rattle.reed_solomon.specs.Systematic.{roots-distinct, syndrome-is, syndrome-cong, syndrome-⊞, check-symbols-is}
 
-unfoldable pub residue : ℕ → ℕ → Series → Series
-residue n k w = cut k w ⊞ check-symbols n k w
+unfoldable pub residue : ℕ → ℕ → ℕ → Series → Series
+residue first n k w = interpolate k (λ j. root (first + j)) (λ j. syndrome n w (first + j))
 
-residue-at : (n k : ℕ) (w : Series) (i : ℕ) → i < k → residue n k w i ≡ w i ⊕ check-symbols n k w i
+pub below-residue : (first n k : ℕ) (w : Series) → below k (residue first n k w)
 unfolding residue
-residue-at n k w i h = ⊞-at _ _ i ∙ ap (λ (s : F). s ⊕ check-symbols n k w i) (cut-low k w i h)
+below-residue first n k w = below-interpolate k _ _
 
-pub below-residue : (n k : ℕ) (w : Series) → below k (residue n k w)
+pub residue-cong : (first n k : ℕ) (f g : Series) → ((i : ℕ) → i < n → f i ≡ g i) → residue first n k f ≡ residue first n k g
 unfolding residue
-below-residue n k w = below-⊞ k _ _ (below-cut k w) (below-check-symbols n k w)
+residue-cong first n k f g same = ap (interpolate k (λ j. root (first + j))) (fun-ext (λ j. syndrome-cong n f g same (first + j)))
 
 -- by the table: from what the symbols from k on leave
-pub residue-table : (n k : ℕ) (t : List ℕ) (w r out : Series) → k ≤ 48 → k ≤ n → Table k t
-    → r ≡ remainder (lower t) (n - k) (drop k w) → out ≡ cut k (w ⊞ drop (48 - k) r) → out ≡ residue n k w
-unfolding residue
-residue-table n k t w r out h l p e o =
-    o
-    ∙ ap (λ (f : Series). cut k (w ⊞ f)) (ap (drop (48 - k)) e ∙ remainder-checks n k t w h l p)
-    ∙ cut-⊞ k _ _
-    ∙ ap (λ (f : Series). cut k w ⊞ f) (below-cut-eq k _ (below-check-symbols n k w))
-
-pub residue-cong : (n k : ℕ) (f g : Series) → k ≤ n → ((i : ℕ) → i < n → f i ≡ g i) → residue n k f ≡ residue n k g
-unfolding residue check-symbols
-residue-cong n k f g room same =
-    ap₂ _⊞_ (cut-cong k f g (λ i h. same i (omega arith)))
-    (ap (interpolate k root) (fun-ext (syndrome-cong n (upper k f) (upper k g) (λ i h. above i h (decLt i k)))))
+pub residue-table : (first n k : ℕ) (t : List ℕ) (w r out : Series) → first + k ≤ 48 → k ≤ n → Table first k t
+    → r ≡ remainder (lower t) (n - k) (drop k w) → out ≡ cut k (w ⊞ drop (48 - k) r) → out ≡ residue first n k w
+unfolding residue aligned root syndrome
+residue-table first n k t w r out h l p e o =
+    interpolate-is k out _ _ (roots-distinct first k (omega arith)) (rw o (below-cut k _)) (λ j b.
+    ap (λ (f : Series). value k f (x j)) o
+    ∙ value-cong k _ _ (x j) (cut-low k _)
+    ∙ value-⊞ k w _ (x j)
+    ∙ ap (λ (s : F). value k w (x j) ⊕ s) (left j b)
+    ∙ sym (whole j))
   where
-    above : (i : ℕ) → i < n → Dec (i < k) → upper k f i ≡ upper k g i
-    above i h (yes l) = upper-low k f i l ∙ sym (upper-low k g i l)
-    above i h (no l) = upper-high k f i (omega arith) ∙ same i h ∙ sym (upper-high k g i (omega arith))
+    x : ℕ → F
+    x j = root (first + j)
 
-module _ (n k : ℕ) (w : Series) (small : k < 255) (room : k ≤ n) where
-  -- the word is its residue and a word of the code
-  word-is : (i : ℕ) → w i ≡ (residue n k w ⊞ systematic n k w) i
-  word-is i = go (decLt i k)
-    where
-      go : Dec (i < k) → w i ≡ (residue n k w ⊞ systematic n k w) i
-      go (yes h) = sym (⊞-at _ _ i ∙ ap₂ _⊕_ (residue-at n k w i h) (systematic-low n k w i h) ∙ simp ⊕-group)
-      go (no h) = sym (⊞-at _ _ i ∙ ap₂ _⊕_ (below-residue n k w i (omega arith)) (systematic-data n k w i (omega arith)) ∙ zero-⊕ (w i))
+    left : (j : ℕ) → j < k → value k (drop (48 - k) r) (x j) ≡ pow (x j) k ⊙ value (n - k) (drop k w) (x j)
+    left j b =
+        ap (λ (f : Series). value k (drop (48 - k) f) (x j)) e
+        ∙ remainder-top k (rest first k) (lower t) (n - k) (drop k w) (x j) (omega arith) (p .generator) (below-rest first k) (power-nonzero (first + j + 1))
+        (rest-value first k j b)
 
-  pub residue-syndrome : (j : ℕ) → j < k → value k (residue n k w) (root j) ≡ syndrome n w j
-  residue-syndrome j h =
-      sym (syndrome-cong n w _ (λ i l. word-is i) j
-      ∙ syndrome-⊞ n _ _ j
-      ∙ ap₂ _⊕_ (syndrome-is n _ j ∙ value-more k n _ (root j) (below-residue n k w) room) (systematic-zero n k w small room j h)
-      ∙ ⊕-zero _)
+    whole : (j : ℕ) → value n w (x j) ≡ value k w (x j) ⊕ pow (x j) k ⊙ value (n - k) (drop k w) (x j)
+    whole j = let e : n ≡ k + (n - k) = omega arith in ap (λ (m : ℕ). value m w (x j)) e ∙ value-split k (n - k) w (x j)
+
+module _ (first n k : ℕ) (w : Series) (small : first + k < 255) where
+  pub residue-syndrome : (j : ℕ) → j < k → value k (residue first n k w) (root (first + j)) ≡ syndrome n w (first + j)
+  unfolding residue
+  residue-syndrome = interpolate-at k _ _ (roots-distinct first k small)
 
   -- of a clean word
-  pub residue-none : ((i : ℕ) → i < k → residue n k w i ≡ 𝟎) → (j : ℕ) → j < k → syndrome n w j ≡ 𝟎
-  residue-none z j h = sym (residue-syndrome j h) ∙ value-zero k _ (root j) z
+  pub residue-none : residue first n k w ≡ O → (j : ℕ) → j < k → syndrome n w (first + j) ≡ 𝟎
+  residue-none z j h = sym (residue-syndrome j h) ∙ ap (λ (f : Series). value k f (root (first + j))) z ∙ value-zero k O _ (λ i _. O-at i)
 
-  pub residue-clean : residue n k w ≡ O → O ≡ cut k (syndrome n w)
-  residue-clean z =
-      sym (cut-unique k (syndrome n w) O (λ j h. residue-none (λ i _. ap (λ (f : Series). f i) z ∙ O-at i) j h ∙ sym (O-at j)) (λ j _. O-at j))
+-- ---- by the first k roots
+
+module _ (n k : ℕ) (w : Series) (small : k < 255) where
+  pub residue-first : (j : ℕ) → j < k → value k (residue 0 n k w) (root j) ≡ syndrome n w j
+  residue-first j h =
+      let e : 0 + j ≡ j = omega arith in
+      ap (λ (i : ℕ). value k (residue 0 n k w) (root i)) (sym e) ∙ residue-syndrome 0 n k w (omega arith) j h ∙ ap (syndrome n w) e
+
+  pub residue-clean : residue 0 n k w ≡ O → O ≡ cut k (syndrome n w)
+  residue-clean z = sym (cut-unique k (syndrome n w) O (λ j h. none j h ∙ sym (O-at j)) (λ j _. O-at j))
+    where
+      none : (j : ℕ) → j < k → syndrome n w j ≡ 𝟎
+      none j h = let e : j ≡ 0 + j = omega arith in ap (syndrome n w) e ∙ residue-none 0 n k w (omega arith) z j h
 
   -- from the array that holds it
-  pub residue-syndromes : (r : List ℕ) → k ≤ length r → bytes r ≡ residue n k w
+  pub residue-syndromes : (r : List ℕ) → k ≤ length r → bytes r ≡ residue 0 n k w
       → cut k (syndrome (length (take k r)) (bytes (take k r))) ≡ cut k (syndrome n w)
   residue-syndromes r long e =
       cut-cong k _ _ (λ j h.
       ap (λ (m : ℕ). syndrome m (bytes (take k r)) j) (length-take-le k r long)
       ∙ syndrome-is k _ j
       ∙ value-cong k _ _ (root j) (λ i l. read-take of 0 k r i l ∙ ap (λ (f : Series). f i) e)
-      ∙ residue-syndrome j h)
+      ∙ residue-first j h)
+
+  pub residue-systematic : k ≤ n → w ⊞ residue 0 n k w ≡ systematic n k w
+  unfolding systematic upper
+  residue-systematic room =
+      ap (λ (f : Series). f ⊞ residue 0 n k w) (cut-drop k w)
+      ∙ shape (cut k w) (upper k w) (residue 0 n k w)
+      ∙ ap (λ (f : Series). f ⊞ upper k w) (check-symbols-is n k w _ small (below-⊞ k _ _ (below-cut k w) (below-residue 0 n k w)) at-root)
+    where
+      shape : (a b c : Series) → a ⊞ b ⊞ c ≡ a ⊞ c ⊞ b
+      shape a b c = simp ⊞-group
+
+      low : (j : ℕ) → syndrome n (cut k w) j ≡ value k (cut k w) (root j)
+      low j = syndrome-is n _ j ∙ value-more k n _ (root j) (below-cut k w) room
+
+      at-root : (j : ℕ) → j < k → value k (cut k w ⊞ residue 0 n k w) (root j) ≡ syndrome n (upper k w) j
+      at-root j h =
+          value-⊞ k _ _ (root j)
+          ∙ ap₂ _⊕_ (sym (low j)) (residue-first j h ∙ ap (λ (f : Series). syndrome n f j) (cut-drop k w) ∙ syndrome-⊞ n _ _ j)
+          ∙ simp ⊕-group
 
 -- ---- zero or not
 

@@ -17,9 +17,12 @@ use Rattle.series.specs.Value.{value, value-cong, value-more, value-split, valu
 use Rattle.series.specs.Interpolation.{Distinct, below-interpolate, interpolate-at, interpolate-unique, interpolate-is}
 use Rattle.reed_solomon.specs.Definition.{root, syndrome, upper, check-symbols, systematic}
 
-pub roots-distinct : (k : ℕ) → k < 255 → Distinct k root
+first-distinct : (k : ℕ) → k < 255 → Distinct k root
 unfolding root
-roots-distinct k h i j l q e = let z : i + 1 ≡ j + 1 = power-inj (i + 1) (j + 1) (omega arith) (omega arith) e in omega arith
+first-distinct k h i j l q e = let z : i + 1 ≡ j + 1 = power-inj (i + 1) (j + 1) (omega arith) (omega arith) e in omega arith
+
+pub roots-distinct : (first k : ℕ) → first + k < 255 → Distinct k (λ j. root (first + j))
+roots-distinct first k h i j l q = first-distinct (first + k) h (first + i) (first + j) (omega arith) (omega arith)
 
 -- ---- syndromes
 
@@ -73,7 +76,7 @@ unfolding systematic check-symbols
 systematic-zero n k w small room j h =
     syndrome-⊞ n _ _ j
     ∙ ap (λ t. t ⊕ syndrome n (upper k w) j)
-    (syndrome-is n _ j ∙ value-more k n _ (root j) (below-interpolate k root _) room ∙ interpolate-at k root _ (roots-distinct k small) j h)
+    (syndrome-is n _ j ∙ value-more k n _ (root j) (below-interpolate k root _) room ∙ interpolate-at k root _ (first-distinct k small) j h)
     ∙ ⊕-self _
 
 -- two words with the same symbols from position k on and the same k syndromes
@@ -81,7 +84,7 @@ pub systematic-unique : (n k : ℕ) (f g : Series) → k < 255 → k ≤ n → (
     → ((j : ℕ) → j < k → syndrome n f j ≡ syndrome n g j) → (i : ℕ) → i < n → f i ≡ g i
 unfolding syndrome
 systematic-unique n k f g small room same s i h =
-    by-cases (decLe k i) (λ l. same i l h) (λ l. interpolate-unique k f g root (roots-distinct k small) low i (omega arith))
+    by-cases (decLe k i) (λ l. same i l h) (λ l. interpolate-unique k f g root (first-distinct k small) low i (omega arith))
   where
     split : (w : Series) (x : F) → value n w x ≡ value k w x ⊕ pow x k ⊙ value (n - k) (drop k w) x
     split w x = let e : n ≡ k + (n - k) = omega arith in ap (λ m. value m w x) e ∙ value-split k (n - k) w x
@@ -96,4 +99,4 @@ systematic-unique n k f g small room same s i h =
 pub check-symbols-is : (n k : ℕ) (w r : Series) → k < 255 → below k r → ((j : ℕ) → j < k → value k r (root j) ≡ syndrome n (upper k w) j)
     → r ≡ check-symbols n k w
 unfolding check-symbols
-check-symbols-is n k w r small b h = interpolate-is k r root _ (roots-distinct k small) b h
+check-symbols-is n k w r small b h = interpolate-is k r root _ (first-distinct k small) b h

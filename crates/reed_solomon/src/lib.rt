@@ -1,6 +1,6 @@
 // One Reed-Solomon word: roots, syndromes, check symbols.
 // What the promises speak of stands in specs/Definition.antt: `systematic n k w` is the word w with its k check symbols in place.
-ghost use Prim.Native.Nat.{_-_, _≤_, _<_};
+ghost use Prim.Native.Nat.{_+_, _-_, _≤_, _<_};
 ghost use mathlib.Core.Path.{_≡_};
 ghost use mathlib.Core.Logic.{_≢_};
 ghost use mathlib.Core.Bool.{true, false};
@@ -39,7 +39,7 @@ pub fn syndrome(word: &[u8], j: usize) -> Gf
 
 // The first k symbols become the check symbols of the others.
 pub fn encode(t: &[u64], k: usize, word: &mut [u8])
-    requires { ⌜ Table k (now t) × (k ≤ 48) × (k ≤ length (now word)) ⌝ }
+    requires { ⌜ Table 0 k (now t) × (k ≤ 48) × (k ≤ length (now word)) ⌝ }
     ensures { λ _. ⌜ bytes (now (word .exit)) ≡ systematic (length (now (word .entry))) k (bytes (now (word .entry))) ⌝ }
 {
     let r = division::remainder(t, word, k);
@@ -68,10 +68,10 @@ fn difference(word: &[u8], k: usize, r: Packed) -> [u8; SYNDROMES]
     out
 }
 
-// The remainder of a word by the generator of k roots, zeros from k on. The word is in the code exactly if it is zero.
-pub fn residue(t: &[u64], k: usize, word: &[u8]) -> [u8; SYNDROMES]
-    requires { ⌜ Table k (now t) × (k ≤ 48) × (k ≤ length (now word)) ⌝ }
-    ensures { λ r. ⌜ bytes r ≡ Residue (length (now (word .entry))) k (bytes (now (word .entry))) ⌝ }
+// The remainder of a word by the generator of the k roots from `first` on, zeros from k on. It is zero exactly if these syndromes are.
+pub fn residue(t: &[u64], first: usize, k: usize, word: &[u8]) -> [u8; SYNDROMES]
+    requires { ⌜ Table first k (now t) × (first + k ≤ 48) × (k ≤ length (now word)) ⌝ }
+    ensures { λ r. ⌜ bytes r ≡ Residue first (length (now (word .entry))) k (bytes (now (word .entry))) ⌝ }
 {
     difference(word, k, division::remainder(t, word, k))
 }
@@ -83,10 +83,10 @@ pub struct ResiduePair {
 }
 
 // The same of two words of one length: it takes little longer than one.
-pub fn residues(t: &[u64], k: usize, a: &[u8], b: &[u8]) -> ResiduePair
-    requires { ⌜ Table k (now t) × (k ≤ 48) × (k ≤ length (now a)) × (length (now b) ≡ length (now a)) ⌝ }
-    ensures first { λ r. ⌜ (length (r .first) ≡ 48) × (bytes (r .first) ≡ Residue (length (now (a .entry))) k (bytes (now (a .entry)))) ⌝ }
-    ensures second { λ r. ⌜ (length (r .second) ≡ 48) × (bytes (r .second) ≡ Residue (length (now (b .entry))) k (bytes (now (b .entry)))) ⌝ }
+pub fn residues(t: &[u64], first: usize, k: usize, a: &[u8], b: &[u8]) -> ResiduePair
+    requires { ⌜ Table first k (now t) × (first + k ≤ 48) × (k ≤ length (now a)) × (length (now b) ≡ length (now a)) ⌝ }
+    ensures first { λ r. ⌜ (length (r .first) ≡ 48) × (bytes (r .first) ≡ Residue first (length (now (a .entry))) k (bytes (now (a .entry)))) ⌝ }
+    ensures second { λ r. ⌜ (length (r .second) ≡ 48) × (bytes (r .second) ≡ Residue first (length (now (b .entry))) k (bytes (now (b .entry)))) ⌝ }
 {
     let both = division::remainders(t, a, b, k);
     let first = difference(a, k, both.0);
@@ -107,8 +107,8 @@ pub fn is_zero(word: &[u8]) -> bool
     bits == 0
 }
 
-// The values of a remainder of k symbols at the roots, then zeros.
-fn values(r: &[u8], k: usize) -> [Gf; SYNDROMES]
+// S_0 to S_(k-1) of a short word, as a remainder is, then zeros.
+pub fn values(r: &[u8], k: usize) -> [Gf; SYNDROMES]
     requires { ⌜ k ≤ 48 ⌝ }
     ensures { λ s. ⌜ row s ≡ cut k (Syndrome (length (now (r .entry))) (bytes (now (r .entry)))) ⌝ }
 {
@@ -123,10 +123,10 @@ fn values(r: &[u8], k: usize) -> [Gf; SYNDROMES]
 
 // S_0 to S_(k-1) of a word, then zeros: from its remainder, which is short, and zero if the word is clean.
 pub fn syndromes(t: &[u64], k: usize, word: &[u8]) -> [Gf; SYNDROMES]
-    requires { ⌜ Table k (now t) × (k ≤ 48) × (k ≤ length (now word)) ⌝ }
+    requires { ⌜ Table 0 k (now t) × (k ≤ 48) × (k ≤ length (now word)) ⌝ }
     ensures { λ r. ⌜ row r ≡ cut k (Syndrome (length (now (word .entry))) (bytes (now (word .entry)))) ⌝ }
 {
-    let r = residue(t, k, word);
+    let r = residue(t, 0, k, word);
     if is_zero(&r) {
         return [Gf::ZERO; SYNDROMES];
     }

@@ -31,7 +31,7 @@ residue-requires : tie.Need-residue-requires
 residue-requires c κs =
     let given = c .before .before .before .before .before .before .before in
     let n = given .args .p .length in
-    (given .pre .1, given .pre .2, omega (arith, given .pre .3, length-take-le n (c .before .nested-word .result) (omega (arith, given .pre .0 .valid .length))))
+    (given .pre .1, omega (arith, given .pre .2), omega (arith, given .pre .3, length-take-le n (c .before .nested-word .result) (omega (arith, given .pre .0 .valid .length))))
 
 returns : tie.Need-returns
 returns c =
@@ -40,8 +40,8 @@ returns c =
     let p = given .args .p in
     let k = given .args .k in
     c .residue .ensures
-    ∙ prefix-residue (p .length) k (word .result) _ (given .pre .3) (omega (arith, given .pre .0 .valid .length)) (word .ensures)
-    ∙ ap (residue (p .length) k) (sym (sums-low p _ (given .args .w) (c .before .before .before .if1 .taken)))
+    ∙ prefix-residue (p .length) k (word .result) _ (omega (arith, given .pre .0 .valid .length)) (word .ensures)
+    ∙ ap (residue 0 (p .length) k) (sym (sums-low p _ (given .args .w) (c .before .before .before .if1 .taken)))
 
 mul-a : tie.Need-mul-a
 mul-a c =
@@ -70,7 +70,7 @@ residue-requires-2 c κs =
     let n = given .args .p .length in
     let w = given .args .w in
     let part = part-length n w _ (given .args .block .now) (add-sub-cancel-left (w * n) n) (inside _ _ w (given .pre .0) (given .pre .4) .0) in
-    (given .pre .1, given .pre .2, omega (arith, part, given .pre .3))
+    (given .pre .1, omega (arith, given .pre .2), omega (arith, part, given .pre .3))
 
 returns-2 : tie.Need-returns-2
 returns-2 c =
@@ -79,9 +79,9 @@ returns-2 c =
     let n = p .length in
     let w = given .args .w in
     c .residue2 .ensures
-    ∙ part-residue n w _ (given .args .block .now) (given .args .k) (given .pre .3) (add-sub-cancel-left (w * n) n)
+    ∙ part-residue n w _ (given .args .block .now) (given .args .k) (add-sub-cancel-left (w * n) n)
     (inside _ _ w (given .pre .0) (given .pre .4) .0)
-    ∙ ap (residue n (given .args .k)) (sym (sums-high p _ w (omega (arith, c .before .before .if1 .left))))
+    ∙ ap (residue 0 n (given .args .k)) (sym (sums-high p _ w (omega (arith, c .before .before .if1 .left))))
 
 pub residue-of-spec : {M : Type 1} → statement M
 residue-of-spec =

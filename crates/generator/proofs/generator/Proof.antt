@@ -14,24 +14,25 @@ use Rattle.generator.proofs.generator.Statement.{statement}
 use Rattle.generator.proofs.generator.Tie as tie
 
 abbrev Inv-loop : tie.InvT-loop
-Inv-loop k z g₀ e₀ j₀ g e j =
-    (j ≤ k) × (length g ≡ 48) × (e ≤ 600 * j) × (pow α e ≡ generator k (k - j)) × (bytes g ≡ zpow (48 - j) ⊠ drop (48 - j) (aligned k))
+Inv-loop first k z g₀ e₀ j₀ g e j =
+    (j ≤ k) × (length g ≡ 48) × (e ≤ 648 * j) × (pow α e ≡ generator first k (k - j)) × (bytes g ≡ zpow (48 - j) ⊠ drop (48 - j) (aligned first k))
 
 abbrev μ-loop : tie.MeasureT-loop
-μ-loop k z g₀ e₀ j₀ g e j = k - j
+μ-loop first k z g₀ e₀ j₀ g e j = k - j
 
 zech-requires : tie.Need-zech-requires Inv-loop μ-loop
 zech-requires c κs = search needs
 
 loop-holds : tie.Need-loop-holds Inv-loop μ-loop
 loop-holds c =
+    let first = c .before .args .first in
     let k = c .before .args .k in
     let e : k - 0 ≡ k = omega arith in (
       search needs,
       length-replicate {A = ℕ} 48 0,
       search needs,
-      pow-zero α ∙ sym (ap (generator k) e ∙ coefficient-top k),
-      read-zeros of 0 of-zero 48 (aligned k) ∙ cut-none _ ∙ back-none k (c .before .pre),
+      pow-zero α ∙ sym (ap (generator first k) e ∙ coefficient-top first k),
+      read-zeros of 0 of-zero 48 (aligned first k) ∙ cut-none _ ∙ back-none first k (omega arith),
     )
 
 add-wide : tie.Need-add-wide Inv-loop μ-loop
@@ -61,6 +62,9 @@ add-e-2 c = search needs
 add-e-3 : tie.Need-add-e-3 Inv-loop μ-loop
 add-e-3 c = search needs
 
+add-e-4 : tie.Need-add-e-4 Inv-loop μ-loop
+add-e-4 c = search needs
+
 sub-e : tie.Need-sub-e Inv-loop μ-loop
 sub-e c = search needs
 
@@ -84,24 +88,26 @@ loop-again c =
     let now = c .before .before .before .before .loop in
     let given = c .before .before .before .before .before .before in
     let zech = c .before .before .before .before .before .zech .ensures in
+    let first = given .args .first in
     let k = given .args .k in
     let up = ap (pow α) (c .before .before .wide .ensures .0) ∙ zech .at (k - (now .j + 1)) (omega arith) in
     let down = ap (pow α) (c .before .wide2 .ensures .0) ∙ zech .at (now .j) (omega arith) in
     let next =
-    exponent-more k (now .j) (now .e) (c .before .before .wide .result) (c .before .wide2 .result) (omega arith) (omega arith) (now .inv .3) up down in (
+    exponent-more first k (now .j) (now .e) (c .before .before .wide .result) (c .before .wide2 .result) (omega arith) (omega arith) (now .inv .3) up down in (
       omega arith,
       length-set (now .g) _ _ ∙ now .inv .1,
       omega arith,
       next,
-      back-more (now .g) k (now .j) _ (given .pre) (omega arith) (now .inv .1) (now .inv .4) (sym (val-of _) ∙ c .power .ensures ∙ next),
+      back-more first (now .g) k (now .j) _ (omega arith) (omega arith) (now .inv .1) (now .inv .4) (sym (val-of _) ∙ c .power .ensures ∙ next),
     )
 
 returns : tie.Need-returns Inv-loop μ-loop
 returns c =
     let end = c .before .loop in
+    let first = c .before .before .before .args .first in
     let k = c .before .before .before .args .k in
     let e : end .j ≡ k = omega arith in
-    end .inv .4 ∙ ap (λ (n : ℕ). zpow (48 - n) ⊠ drop (48 - n) (aligned k)) e ∙ back-all k
+    end .inv .4 ∙ ap (λ (n : ℕ). zpow (48 - n) ⊠ drop (48 - n) (aligned first k)) e ∙ back-all first k
 
 pub generator-spec : {M : Type 1} → statement M
 generator-spec =
@@ -120,6 +126,7 @@ generator-spec =
     add-e
     add-e-2
     add-e-3
+    add-e-4
     sub-e
     add-j
     power-requires

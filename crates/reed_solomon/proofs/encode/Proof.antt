@@ -1,13 +1,13 @@
 -- The first p symbols are check symbols.
 use Prim.Native.Nat.{_+_, _-_, _≤_}
-use mathlib.Core.Path.{_≡_, refl, sym, ap, _∙_}
+use mathlib.Core.Path.{_≡_, refl, sym, _∙_}
 use native.Mathlib.Omega.{arith}
 use lib.ListN.{length, length-set}
 use Rattle.field.specs.Field.{of}
-use Rattle.series.specs.Series.{Series, _⊞_, _⊠_}
+use Rattle.series.specs.Series.{_⊞_, _⊠_}
 use Rattle.series.specs.Shift.{zpow, drop, cut, drop-at}
 use Rattle.series.specs.Array.{bytes, read-at}
-use Rattle.reed_solomon.specs.Encoder.{remainder-checks, front-none, front-more, front-all}
+use Rattle.reed_solomon.specs.Encoder.{front-none, front-more, front-all}
 use borrow.Author.Needs.{needs}
 use Rattle.reed_solomon.proofs.encode.Statement.{statement}
 use Rattle.reed_solomon.proofs.encode.Tie as tie
@@ -66,10 +66,9 @@ returns c =
     let k = given .args .k in
     let word = given .args .word .now in
     let e : end .p ≡ k = omega arith in
-    let checks =
-    ap (drop (48 - k)) (c .before .before .unpack .ensures ∙ c .before .before .before .remainder .ensures)
-    ∙ remainder-checks (length word) k (given .args .t .now) (bytes word) (given .pre .1) (given .pre .2) (given .pre .0) in
-    (rw e at (end .inv .2)) ∙ ap (λ (f : Series). cut k f ⊞ zpow k ⊠ drop k (bytes word)) checks ∙ front-all (length word) k (bytes word)
+    let left = c .before .before .unpack .ensures ∙ c .before .before .before .remainder .ensures in
+    (rw e at (end .inv .2))
+    ∙ front-all (length word) k (given .args .t .now) (bytes word) _ (given .pre .1) (given .pre .2) (given .pre .0) left
 
 pub encode-spec : {M : Type 1} → statement M
 encode-spec =

@@ -19,19 +19,20 @@ difference-requires c κs = search needs
 difference-requires-2 : tie.Need-difference-requires-2
 difference-requires-2 c κs =
     let given = c .before .before .before .before .before .pre in
-    (given .1, omega (arith, given .2, given .3))
+    (omega (arith, given .1), omega (arith, given .2, given .3))
 
 returns : tie.Need-returns
 returns c =
     let given = c .before .before .before .before .before .before in
+    let from = given .args .first in
     let k = given .args .k in
     let a = given .args .a .now in
     let b = given .args .b .now in
     let left = c .before .before .remainders .ensures in
     let room : k ≤ length b = omega (arith, given .pre .2, given .pre .3) in
     let table = given .args .t .now in
-    let first = residue-table (length a) k table (bytes a) _ _ (given .pre .1) (given .pre .2) (given .pre .0) (left .0) (c .before .difference .ensures) in
-    let second = residue-table (length b) k table (bytes b) _ _ (given .pre .1) room (given .pre .0) (left .1) (c .difference2 .ensures) in
+    let first = residue-table from (length a) k table (bytes a) _ _ (given .pre .1) (given .pre .2) (given .pre .0) (left .0) (c .before .difference .ensures) in
+    let second = residue-table from (length b) k table (bytes b) _ _ (given .pre .1) room (given .pre .0) (left .1) (c .difference2 .ensures) in
     ((search needs, first), (search needs, second))
 
 pub residues-spec : {M : Type 1} → statement M

@@ -22,7 +22,7 @@ returns : tie.Need-returns
 returns c =
     let given = c .before .before .before .before .before .before in
     let zero = sym (c .before .before .before .residue .ensures) ∙ c .before .is-zero .ensures .0 (c .if1 .taken) in
-    row-zeros ∙ residue-clean (length (given .args .word .now)) (given .args .k) _ (omega (arith, given .pre .1)) (given .pre .2) zero
+    row-zeros ∙ residue-clean (length (given .args .word .now)) (given .args .k) _ (omega (arith, given .pre .1)) zero
 
 array-share-prefix-r : tie.Need-array-share-prefix-r
 array-share-prefix-r c = search needs
@@ -42,7 +42,7 @@ returns-2 c =
     let residue = c .before .before .before .before .before .residue in
     let long : length (residue .result) ≡ 48 = search needs in
     c .values .ensures
-    ∙ residue-syndromes (length (given .args .word .now)) (given .args .k) _ (omega (arith, given .pre .1)) (given .pre .2) (residue .result)
+    ∙ residue-syndromes (length (given .args .word .now)) (given .args .k) _ (omega (arith, given .pre .1)) (residue .result)
     (omega (arith, long, given .pre .1)) (residue .ensures)
 
 pub syndromes-spec : {M : Type 1} → statement M
