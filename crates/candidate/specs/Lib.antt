@@ -1,3 +1,5 @@
--- Located names what `locate` promises; Walk holds what its parts promise.
+-- Located names what `locate` promises; Walk and One hold what it goes by, Numerator what `numerator` does.
 pub mod Walk
 pub mod Located
+pub mod One
+pub mod Numerator

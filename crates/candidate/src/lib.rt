@@ -4,12 +4,12 @@
 // products. At a root the locator and the numerator put a change forward.
 ghost use Prim.Native.Nat.{_+_, _-_, _≤_, _<_};
 ghost use mathlib.Core.Path.{_≡_};
-ghost use mathlib.Core.Logic.{ite};
+ghost use mathlib.Core.Logic.{_≢_, ite};
 ghost use lib.ListN.{length};
 ghost use Rattle.field.specs.Field.{𝟎, _⊙_, _≟_, inv, val};
 ghost use Rattle.series.specs.Sum.{sum};
-ghost use Rattle.series.specs.Series.{_⊠_};
-ghost use Rattle.series.specs.Shift.{cut};
+ghost use Rattle.series.specs.Series.{K, _⊞_, _⊠_};
+ghost use Rattle.series.specs.Shift.{zpow, cut};
 ghost use Rattle.series.specs.Degree.{below};
 ghost use Rattle.series.specs.Value.{value, odd};
 ghost use Rattle.series.specs.Array.{bytes};
@@ -107,6 +107,35 @@ fn advance(rows: &[[u8; 256]; TERMS], at: &mut [u8], k: usize) -> Gf
     Gf(v)
 }
 
+// The value of a word at w: by products where the word is short, else by a row of products, which costs as much as five of them.
+fn value_at(w: Gf, word: &[u8]) -> Gf
+    ensures { λ r. ⌜ val r ≡ value (length (now (word .entry))) (bytes (now (word .entry))) (val w) ⌝ }
+{
+    if word.len() > 4 {
+        let row = kernel::product_row(w);
+        return kernel::value(&row, word);
+    }
+    let mut v: u8 = 0;
+    let mut i: usize = word.len();
+    while i > 0 {
+        i -= 1;
+        v = kernel::multiply(w.0, v) ^ word[i];
+    }
+    Gf(v)
+}
+
+// Forney's formula at position p, the odd part's value being the denominator.
+fn forney(p: usize, denominator: Gf, numerator: &[u8]) -> Gf
+    requires { ⌜ p ≤ 255 ⌝ }
+    ensures { λ r. ⌜ val r ≡
+        W p ⊙ value (length (now (numerator .entry))) (bytes (now (numerator .entry))) (W p) ⊙ inv (val denominator) ⌝ }
+{
+    let w = Exponent(255 - p).power();
+    let top = value_at(w, numerator);
+    let scaled = kernel::product(w, top);
+    kernel::product(scaled, denominator.inverse())
+}
+
 // What is put forward at position p, v being the locator's value there.
 fn change(p: usize, v: Gf, at: &[u8], k: usize, numerator: &[u8]) -> Gf
     requires { ⌜ (p ≤ 255) × (k ≤ length (now at)) × below k (bytes (now at)) ⌝ }
@@ -116,12 +145,7 @@ fn change(p: usize, v: Gf, at: &[u8], k: usize, numerator: &[u8]) -> Gf
     if !v.is_zero() {
         return Gf::ZERO;
     }
-    let w = Exponent(255 - p).power();
-    let row = kernel::product_row(w);
-    let top = kernel::value(&row, numerator);
-    let bottom = odd_total(at, k);
-    let scaled = w.product(top);
-    scaled.product(bottom.inverse())
+    forney(p, odd_total(at, k), numerator)
 }
 
 // How many roots are missing after a position with the value v.
@@ -135,23 +159,50 @@ fn still_missing(missing: usize, v: Gf) -> usize
     missing
 }
 
-// The first m coefficients of the locator times the syndromes.
-pub fn numerator(locator: [Gf; COEFFICIENTS], row: [Gf; SYNDROMES], m: usize) -> [u8; TERMS]
-    requires { ⌜ m ≤ 25 ⌝ }
-    ensures { λ r. ⌜ bytes r ≡ cut m (poly locator ⊠ Row row) ⌝ }
+// The locator's coefficient c at z^a times the first 32 syndromes is added: more than the numerator needs, so that many are taken at a time.
+fn add_term(c: Gf, a: usize, row: [Gf; SYNDROMES], to: &mut [u8])
+    requires { ⌜ a + 32 ≤ length (now to) ⌝ }
+    ensures { λ _. ⌜ bytes (now (to .exit)) ≡ bytes (now (to .entry)) ⊞ zpow a ⊠ cut 32 (K (val c) ⊠ Row row) ⌝ }
+{
+    let mut j: usize = 0;
+    while j < 32 {
+        let g = row[j];
+        let q = a + j;
+        to[q] = to[q] ^ kernel::multiply(g.0, c.0);
+        j = j + 1;
+    }
+}
+
+// The first m bytes.
+fn first_bytes(from: &[u8], m: usize) -> [u8; TERMS]
+    requires { ⌜ (m ≤ 25) × (m ≤ length (now from)) ⌝ }
+    ensures { λ r. ⌜ bytes r ≡ cut m (bytes (now (from .entry))) ⌝ }
 {
     let mut out = [0u8; TERMS];
     let mut i: usize = 0;
     while i < m {
-        let g = syndromes::convolve(locator, row, i);
-        out[i] = g.0;
+        out[i] = from[i];
         i = i + 1;
     }
     out
 }
 
+// The first m coefficients of the locator times the syndromes: those of the locator's first m terms.
+pub fn numerator(locator: [Gf; COEFFICIENTS], row: [Gf; SYNDROMES], m: usize) -> [u8; TERMS]
+    requires { ⌜ m ≤ 25 ⌝ }
+    ensures { λ r. ⌜ bytes r ≡ cut m (poly locator ⊠ Row row) ⌝ }
+{
+    let mut sum = [0u8; 57];
+    let mut i: usize = 0;
+    while i < m {
+        add_term(locator[i], i, row, &mut sum);
+        i = i + 1;
+    }
+    first_bytes(&sum, m)
+}
+
 // From position 0 on, until no root is missing, or the positions that are left are fewer than the roots that are.
-pub fn locate(locator: [Gf; COEFFICIENTS], numerator: &[u8], roots: usize, n: usize) -> Located
+fn walk(locator: [Gf; COEFFICIENTS], numerator: &[u8], roots: usize, n: usize) -> Located
     requires { ⌜ (roots ≤ 24) × (n ≤ 255) × (length (now numerator) ≤ roots + 1) ⌝ }
     ensures { λ r. ⌜ Walked n (roots + 1) roots (poly locator) (bytes (now (numerator .entry))) (r .whole) (r .pattern) ⌝ }
 {
@@ -178,4 +229,46 @@ pub fn locate(locator: [Gf; COEFFICIENTS], numerator: &[u8], roots: usize, n: us
         whole: true,
         pattern: pattern,
     }
+}
+
+// A locator of two terms has its one root at W p if its second coefficient is α^p times its first one: logarithms give p. There the odd part is the
+// first coefficient.
+fn locate_one(locator: [Gf; COEFFICIENTS], numerator: &[u8], n: usize) -> Located
+    requires { ⌜ (n ≤ 255) × (length (now numerator) ≤ 2) × (poly locator 0 ≢ 𝟎) × (poly locator 1 ≢ 𝟎) ⌝ }
+    ensures { λ r. ⌜ Walked n 2 1 (poly locator) (bytes (now (numerator .entry))) (r .whole) (r .pattern) ⌝ }
+{
+    let a = locator[0];
+    let b = locator[1];
+    let i = a.log();
+    let j = b.log();
+    let p = (j.0 + (255 - i.0)) % 255;
+    let mut pattern = [Gf::ZERO; 255];
+    if n <= p {
+        return Located {
+            whole: false,
+            pattern: pattern,
+        };
+    }
+    pattern[p] = forney(p, a, numerator);
+    Located {
+        whole: true,
+        pattern: pattern,
+    }
+}
+
+// One root at once, more by the walk.
+pub fn locate(locator: [Gf; COEFFICIENTS], numerator: &[u8], roots: usize, n: usize) -> Located
+    requires { ⌜ (roots ≤ 24) × (n ≤ 255) × (length (now numerator) ≤ roots + 1) ⌝ }
+    ensures { λ r. ⌜ Walked n (roots + 1) roots (poly locator) (bytes (now (numerator .entry))) (r .whole) (r .pattern) ⌝ }
+{
+    if roots == 1 {
+        let a = locator[0];
+        let b = locator[1];
+        if !a.is_zero() {
+            if !b.is_zero() {
+                return locate_one(locator, numerator, n);
+            }
+        }
+    }
+    walk(locator, numerator, roots, n)
 }

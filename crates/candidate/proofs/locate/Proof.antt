@@ -1,116 +1,58 @@
--- The walk stands at position p.
-use Prim.Native.Nat.{_-_, _≤_}
-use mathlib.Core.Path.{_≡_}
+-- Where there is one root its two coefficients are not zero; else the walk answers.
+use Prim.Native.Nat.{_+_}
+use mathlib.Core.Path.{_≡_, sym, ap, _∙_, subst}
 use native.Mathlib.Omega.{arith}
-use lib.ListN.{length}
-use Rattle.field.specs.Field.{of, of-zero, val}
-use Rattle.series.specs.Degree.{below-cut}
-use Rattle.series.specs.Array.{bytes, below-read}
-use Rattle.candidate.specs.Located.{Walking, walking-start, walking-below, walking-more, walked-all, walked-few, walked-cut}
+use borrow.Author.Tests.{not-true}
+use Rattle.field.specs.Field.{𝟎, isZero-false}
+use Rattle.series.specs.Array.{bytes}
+use Rattle.polynomial.specs.Polynomial.{poly, poly-at}
+use Rattle.candidate.specs.Located.{Walked}
 use borrow.Author.Needs.{needs}
 use Rattle.candidate.proofs.locate.Statement.{statement}
 use Rattle.candidate.proofs.locate.Tie as tie
 
-abbrev Inv-loop : tie.InvT-loop
-Inv-loop numerator roots n k rows at₀ v₀ pattern₀ missing₀ p₀ at v pattern missing p = (p ≤ n) × (length at ≡ 25) × Walking k roots (bytes at₀) (bytes numerator) p missing at (val v) pattern
+array-copy-out-a : tie.Need-array-copy-out-a
+array-copy-out-a c = search needs
 
-abbrev μ-loop : tie.MeasureT-loop
-μ-loop numerator roots n k rows at₀ v₀ pattern₀ missing₀ p₀ at v pattern missing p = 255 - p
+array-copy-out-b : tie.Need-array-copy-out-b
+array-copy-out-b c = search needs
 
-add-k : tie.Need-add-k Inv-loop μ-loop
-add-k c = search needs
+is-zero-requires : tie.Need-is-zero-requires
+is-zero-requires c κs = search needs
 
-step-rows-requires : tie.Need-step-rows-requires Inv-loop μ-loop
-step-rows-requires c κs = search needs
+is-zero-requires-2 : tie.Need-is-zero-requires-2
+is-zero-requires-2 c κs = search needs
 
-first-terms-requires : tie.Need-first-terms-requires Inv-loop μ-loop
-first-terms-requires c κs = search needs
-
-slice-aggregate-total : tie.Need-slice-aggregate-total Inv-loop μ-loop
-slice-aggregate-total c = search needs
-
-total-requires : tie.Need-total-requires Inv-loop μ-loop
-total-requires c κs = search needs
-
-loop-holds : tie.Need-loop-holds Inv-loop μ-loop
-loop-holds c =
-    let made = c .before .before in
-    (search needs, search needs, walking-start _ _ (rw (made .first-terms .ensures) (below-cut _ _)) (c .total .ensures))
-
-sub-if1 : tie.Need-sub-if1 Inv-loop μ-loop
-sub-if1 c = search needs
-
-returns : tie.Need-returns Inv-loop μ-loop
-returns c =
-    let now = c .before .before .loop in
-    walked-cut (c .before .before .before .before .before .first-terms .ensures) (walked-few (now .inv .2) _ (now .inv .0) (omega arith))
-
-slice-aggregate-change : tie.Need-slice-aggregate-change Inv-loop μ-loop
-slice-aggregate-change c = search needs
-
-change-requires : tie.Need-change-requires Inv-loop μ-loop
-change-requires c κs =
-    let now = c .before .before .before .loop in
-    (omega arith, omega arith, walking-below (now .inv .2))
-
-array-set-from-pattern : tie.Need-array-set-from-pattern Inv-loop μ-loop
-array-set-from-pattern c = search needs
-
-still-missing-requires : tie.Need-still-missing-requires Inv-loop μ-loop
-still-missing-requires c κs = search needs
-
-slice-aggregate-advance : tie.Need-slice-aggregate-advance Inv-loop μ-loop
-slice-aggregate-advance c = search needs
-
-advance-requires : tie.Need-advance-requires Inv-loop μ-loop
-advance-requires c κs =
-    let now = c .before .before .before .before .before .before .before .loop in
-    (omega arith, omega arith, c .before .before .before .before .before .before .before .before .before .before .before .step-rows .ensures, walking-below (now .inv .2))
-
-add-p : tie.Need-add-p Inv-loop μ-loop
-add-p c = search needs
-
-loop-less : tie.Need-loop-less Inv-loop μ-loop
-loop-less c = search needs
-
-loop-again : tie.Need-loop-again Inv-loop μ-loop
-loop-again c =
-    let changed = c .before .before .before .before .before in
-    let now = changed .before .before .before .before .loop in
-    let given = changed .before .before .before .before .before .before .before .before .before .before in
-    let on = c .before .advance .ensures in (
+locate-one-requires : tie.Need-locate-one-requires
+locate-one-requires c κs =
+    let f = c .before .before .before .before .before .before .before .before .args .t1 in (
       omega arith,
-      omega (arith, c .at4 .given),
-      walking-more (now .inv .2) (length (given .args .numerator .now)) _ _ _ _ (below-read of 0 of-zero _) (given .pre .2) (omega arith) (omega arith)
-          (changed .change .ensures) (c .before .before .before .before .still-missing .ensures) (on .0) (on .1),
+      omega arith,
+      λ z. isZero-false _ (sym (c .before .before .before .is-zero .ensures) ∙ not-true _ (c .before .before .if2 .taken)) (sym (poly-at f 0 (omega arith)) ∙ z),
+      λ z. isZero-false _ (sym (c .before .is-zero2 .ensures) ∙ not-true _ (c .if3 .taken)) (sym (poly-at f 1 (omega arith)) ∙ z),
     )
 
-returns-2 : tie.Need-returns-2 Inv-loop μ-loop
-returns-2 c =
-    let end = c .before .loop in
-    walked-cut (c .before .before .before .before .first-terms .ensures) (walked-all (end .inv .2) _ (end .inv .0) (omega arith))
+returns : tie.Need-returns
+returns c =
+    let given = c .before .before .before .before .before .before .before .before .before .args in
+    let e : 1 ≡ given .roots = omega arith in
+    subst (λ l. Walked (given .n) (l + 1) l (poly (given .t1)) (bytes (given .numerator .now)) (c .locate-one .result .whole) (c .locate-one .result .pattern)) e (c .locate-one .ensures)
+
+walk-requires : tie.Need-walk-requires
+walk-requires c κs = search needs
+
+returns-2 : tie.Need-returns-2
+returns-2 c = search needs
 
 pub locate-spec : {M : Type 1} → statement M
 locate-spec =
     tie.close
     (tie.spec
-    Inv-loop
-    μ-loop
-    add-k
-    step-rows-requires
-    first-terms-requires
-    slice-aggregate-total
-    total-requires
-    loop-holds
-    sub-if1
+    array-copy-out-a
+    array-copy-out-b
+    is-zero-requires
+    is-zero-requires-2
+    locate-one-requires
     returns
-    slice-aggregate-change
-    change-requires
-    array-set-from-pattern
-    still-missing-requires
-    slice-aggregate-advance
-    advance-requires
-    add-p
-    loop-less
-    loop-again
+    walk-requires
     returns-2)
