@@ -4,12 +4,17 @@
 --   row l    a table of 48 syndromes: the sequence that it holds, then zeros
 --
 -- Both cut what an array cannot hold, so that they have their degree whatever the list is.
-use Prim.Native.Nat.{ℕ, _≤_, _<_}
+--
+-- Proved: coefficients that are zero, one by one and from there on (clear-more, below-clear).
+use Prim.Native.Nat.{ℕ, _+_, _≤_, _<_}
 use mathlib.Core.Path.{_≡_, sym, ap, ap₂, _∙_}
 use mathlib.Core.List.{List}
+use native.Mathlib.Decide.{ℕ-discrete, decLt}
+use native.Mathlib.Omega.{arith}
+use lib.Bits.{bitOr, or-add-and, and-le-l, and-le-r}
 use lib.ListN.{length, getD, replicate, length-replicate}
 use Rattle.field.specs.declared.Gf.{Gf}
-use Rattle.field.specs.Field.{F, val, val-zero}
+use Rattle.field.specs.Field.{F, 𝟎, val, val-zero, val-is-zero}
 use Rattle.series.specs.Series.{Series, O, K, Z, _⊞_, _⊠_}
 use Rattle.series.specs.Shift.{cut, cut-low, cut-none, cut-⊞, cut-K-⊠}
 use Rattle.series.specs.Degree.{below, below-cut, below-cut-eq, below-K-⊠}
@@ -56,6 +61,33 @@ row-zeros = row-values _ (length-replicate {A = Gf} 48 (record { 0 = 0 })) ∙ r
 -- an array that is filled with f, past the last coefficient of f
 pub poly-filled : {i : ℕ} {f : Series} {l : List Gf} (k : ℕ) → Filled 49 i f l → k ≤ i → below k f → poly l ≡ f
 poly-filled {l = l} k p h b = poly-values l (p .long) ∙ filled-all k p h b
+
+-- ---- coefficients that are zero
+
+abbrev pub Clear : Series → ℕ → ℕ → Type 0
+Clear f m n = (k : ℕ) → m ≤ k → k < n → f k ≡ 𝟎
+
+pub below-clear : (m n : ℕ) (f : Series) → below n f → Clear f m n → below m f
+below-clear m n f b h k l = go (decLt k n)
+  where
+    go : Dec (k < n) → f k ≡ 𝟎
+    go (yes s) = h k l s
+    go (no s) = b k (omega arith)
+
+-- one more, found by a disjunction of bits
+pub clear-more : (l : List Gf) (m i any : ℕ) → i < 49 → (any ≡ 0 → Clear (poly l) m i)
+    → bitOr any (getD l i (record { 0 = 0 }) .0) ≡ 0 → Clear (poly l) m (i + 1)
+clear-more l m i any b h e k p q = go (ℕ-discrete k i)
+  where
+    left : any ≡ 0
+    left = omega (arith, or-add-and any (getD l i (record { 0 = 0 }) .0), and-le-r any (getD l i (record { 0 = 0 }) .0))
+
+    right : getD l i (record { 0 = 0 }) .0 ≡ 0
+    right = omega (arith, or-add-and any (getD l i (record { 0 = 0 }) .0), and-le-l any (getD l i (record { 0 = 0 }) .0))
+
+    go : Dec (k ≡ i) → poly l k ≡ 𝟎
+    go (yes s) = rw s (poly-at l i b ∙ val-is-zero _ right)
+    go (no s) = h left k p (omega arith)
 
 -- f + a g and a f + b zg, of 49 coefficients each
 pub cut-add : (a : F) (f g : Series) → below 49 f → f ⊞ K a ⊠ cut 49 g ≡ cut 49 (f ⊞ K a ⊠ g)

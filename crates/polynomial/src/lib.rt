@@ -1,10 +1,14 @@
 // Polynomials over GF(256) with at most 49 coefficients: sums, scalars and values.
+// A loop of products runs 16 at a time, and only over coefficients that may differ from zero.
 // The promises are equations of power series: `poly f` is the array f as a polynomial. A table of 48 syndromes is a sequence, `row s`.
+ghost use Prim.Native.Nat.{_≤_};
 ghost use mathlib.Core.Path.{_≡_};
+ghost use mathlib.Core.Bool.{true};
 ghost use Rattle.field.specs.Field.{val};
 ghost use Rattle.series.specs.Series.{O, K, _⊞_, _⊠_};
+ghost use Rattle.series.specs.Degree.{below};
 ghost use Rattle.series.specs.Value.{value};
-ghost use Rattle.polynomial.specs.Polynomial.{poly};
+ghost use Rattle.polynomial.specs.Polynomial.{poly, Clear};
 use field::Gf;
 
 // Coefficient i stands at index i.
@@ -26,12 +30,44 @@ pub fn constant(a: Gf) -> [Gf; COEFFICIENTS]
     out
 }
 
+// Whether coefficients `from` to `to` - 1 are zero. No branch is taken in the loop, so that many are looked at a time.
+fn clear(f: [Gf; COEFFICIENTS], from: usize, to: usize) -> bool
+    requires { ⌜ to ≤ 49 ⌝ }
+    ensures { λ b. ⌜ (b ≡ true → Clear (poly f) from to) ⌝ }
+{
+    let mut any: u8 = 0;
+    let mut i = from;
+    while i < to {
+        let g = f[i];
+        any = any | g.0;
+        i = i + 1;
+    }
+    any == 0
+}
+
+// 16, 32 or 49: the coefficients from there on are zero.
+pub fn extent(f: [Gf; COEFFICIENTS]) -> usize
+    ensures { λ n. ⌜ below n (poly f) × (n ≤ 49) ⌝ }
+{
+    if !clear(f, 32, COEFFICIENTS) {
+        return COEFFICIENTS;
+    }
+    if !clear(f, 16, 32) {
+        return 32;
+    }
+    16
+}
+
 pub fn scale(a: Gf, f: [Gf; COEFFICIENTS]) -> [Gf; COEFFICIENTS]
     ensures { λ r. ⌜ poly r ≡ K (val a) ⊠ poly f ⌝ }
 {
     let mut out = [Gf::ZERO; COEFFICIENTS];
+    if a.is_zero() {
+        return out;
+    }
+    let n = extent(f);
     let mut i: usize = 0;
-    while i < COEFFICIENTS {
+    while i < n {
         out[i] = kernel::product(a, f[i]);
         i = i + 1;
     }

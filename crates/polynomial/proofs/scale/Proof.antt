@@ -1,9 +1,10 @@
--- Entry i gets a·f[i], coefficient i of the product.
+-- Entry i gets a·f[i], coefficient i of the product; past the extent f is zero.
 use Prim.Native.Nat.{_-_}
-use mathlib.Core.Path.{refl, sym, ap₂, _∙_}
-use Rattle.field.specs.Field.{_⊙_, val}
-use Rattle.series.specs.Series.{K, _⊠_, K-⊠-at}
-use Rattle.series.specs.Degree.{below-K-⊠}
+use mathlib.Core.Path.{_≡_, refl, sym, ap₂, _∙_}
+use native.Mathlib.Omega.{arith}
+use Rattle.field.specs.Field.{F, 𝟎, _⊙_, val, isZero-true}
+use Rattle.series.specs.Series.{Series, O, K, _⊠_, K-⊠-at, K-zero, zero-⊠}
+use Rattle.series.specs.Degree.{below-K-⊠, below-O}
 use Rattle.series.specs.Array.{Filled, filled-none, filled-more}
 use Rattle.polynomial.specs.Polynomial.{poly, poly-at, below-poly, poly-filled}
 use borrow.Author.Needs.{needs}
@@ -11,10 +12,24 @@ use Rattle.polynomial.proofs.scale.Statement.{statement}
 use Rattle.polynomial.proofs.scale.Tie as tie
 
 abbrev Inv-loop : tie.InvT-loop
-Inv-loop a f out₀ i₀ out i = Filled 49 i (K (val a) ⊠ poly f) out
+Inv-loop a f out₀ n i₀ out i = Filled 49 i (K (val a) ⊠ poly f) out
 
 abbrev μ-loop : tie.MeasureT-loop
-μ-loop a f out₀ i₀ out i = 49 - i
+μ-loop a f out₀ n i₀ out i = n - i
+
+is-zero-requires : tie.Need-is-zero-requires Inv-loop μ-loop
+is-zero-requires c κs = search needs
+
+returns : tie.Need-returns Inv-loop μ-loop
+returns c =
+    poly-filled 0 (filled-none 49 _) (omega arith) (below-O 0)
+    ∙ sym (none _ _ (isZero-true _ (sym (c .before .is-zero .ensures) ∙ c .if1 .taken)))
+  where
+    none : (a : F) (f : Series) → a ≡ 𝟎 → K a ⊠ f ≡ O
+    none a f e = rw (e, K-zero) (zero-⊠ f)
+
+extent-requires : tie.Need-extent-requires Inv-loop μ-loop
+extent-requires c κs = search needs
 
 loop-holds : tie.Need-loop-holds Inv-loop μ-loop
 loop-holds c = filled-none 49 _
@@ -37,11 +52,11 @@ loop-less c = search needs
 loop-again : tie.Need-loop-again Inv-loop μ-loop
 loop-again c =
     let turn = c .before .before in
-    let l = turn .loop-test .taken in
-    filled-more _ (turn .before .loop .inv) l (c .product .ensures ∙ sym (K-⊠-at _ _ _ ∙ ap₂ _⊙_ refl (poly-at _ _ l)))
+    filled-more _ (turn .before .loop .inv) (omega arith) (c .product .ensures ∙ sym (K-⊠-at _ _ _ ∙ ap₂ _⊙_ refl (poly-at _ _ (omega arith))))
 
-returns : tie.Need-returns Inv-loop μ-loop
-returns c = poly-filled 49 (c .before .loop .inv) (c .loop-test .left) (below-K-⊠ 49 _ _ (below-poly _))
+returns-2 : tie.Need-returns-2 Inv-loop μ-loop
+returns-2 c =
+    poly-filled _ (c .before .loop .inv) (c .loop-test .left) (below-K-⊠ _ _ _ (c .before .before .extent .ensures .0))
 
 pub scale-spec : {M : Type 1} → statement M
 scale-spec =
@@ -49,6 +64,9 @@ scale-spec =
     (tie.spec
     Inv-loop
     μ-loop
+    is-zero-requires
+    returns
+    extent-requires
     loop-holds
     array-copy-out-product
     product-requires
@@ -56,4 +74,4 @@ scale-spec =
     add-i
     loop-less
     loop-again
-    returns)
+    returns-2)
