@@ -1,5 +1,5 @@
 // The lookahead form of the key-equation solver: document 003, Algorithm 2. Every scalar is held before the iteration that uses it.
-ghost use Prim.Native.Nat.{_+_};
+ghost use Prim.Native.Nat.{_+_, _-_};
 ghost use mathlib.Core.Path.{_≡_};
 ghost use mathlib.Core.Bool.{true};
 ghost use Rattle.field.specs.Field.{val, _⊕_, _⊙_};
@@ -9,7 +9,8 @@ ghost use Rattle.polynomial.specs.Polynomial.{poly, row};
 ghost use Rattle.iteration.specs.Length.{k-of};
 ghost use Rattle.iteration.specs.Lookahead.{start as Start, enter as Enter, swap as Swap, hold as Hold, iterate as Iterate};
 ghost use Rattle.iteration.specs.Lookahead.{swapping, next-Λ, next-Δ, next-δS};
-ghost use Rattle.lookahead.specs.View.{lookahead, clip-lookahead};
+ghost use Rattle.swap.specs.Turns.{turns};
+ghost use Rattle.lookahead.specs.View.{lookahead, clip-lookahead, turn-lookahead};
 ghost use Rattle.lookahead.specs.Step.{stepped};
 use field::Gf;
 use syndromes::coefficient;
@@ -217,5 +218,17 @@ impl Lookahead {
             return self.swap(r, s);
         }
         self.hold(r, s)
+    }
+    // Iterations `from` to `to` - 1. There is none if `to` is not above `from`.
+    pub fn run(self, from: u8, to: u8, s: [Gf; 48]) -> Lookahead
+        ensures { λ p. ⌜ lookahead (from + (to - from)) p ≡ turns (turn-lookahead (row s)) from (to - from) (lookahead from self) ⌝ }
+    {
+        let mut p = self;
+        let mut r = from;
+        while r < to {
+            p = p.iterate(r, s);
+            r = r + 1;
+        }
+        p
     }
 }

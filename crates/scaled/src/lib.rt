@@ -1,5 +1,5 @@
 // The scaled form of the key-equation solver: document 01's text. Four products of a scalar and a polynomial serve every line of an iteration.
-ghost use Prim.Native.Nat.{ℕ, _+_};
+ghost use Prim.Native.Nat.{ℕ, _+_, _-_};
 ghost use mathlib.Core.Path.{_≡_};
 ghost use mathlib.Core.Bool.{cond};
 ghost use Rattle.field.specs.Field.{𝟏, val, isZero};
@@ -8,7 +8,8 @@ ghost use Rattle.series.specs.Shift.{cut};
 ghost use Rattle.polynomial.specs.Polynomial.{poly, row};
 ghost use Rattle.iteration.specs.Length.{k-of};
 ghost use Rattle.iteration.specs.Scaled.{unless, ratio as Ratio, holding as Holding, start as Start, enter as Enter, iterate as Iterate};
-ghost use Rattle.scaled.specs.View.{scaled, clip-scaled, Products-of, stepped};
+ghost use Rattle.swap.specs.Turns.{turns};
+ghost use Rattle.scaled.specs.View.{scaled, clip-scaled, turn-scaled, Products-of, stepped};
 use field::Gf;
 use syndromes::coefficient;
 
@@ -223,5 +224,17 @@ impl Scaled {
         let t = p.theta;
         let gamma = self.xi.product(self.gamma);
         step(n, s, p, zb, t, gamma, l)
+    }
+    // Iterations `from` to `to` - 1. There is none if `to` is not above `from`.
+    pub fn run(self, from: u8, to: u8, s: [Gf; 48]) -> Scaled
+        ensures { λ p. ⌜ scaled (from + (to - from)) p ≡ turns (turn-scaled (row s)) from (to - from) (scaled from self) ⌝ }
+    {
+        let mut p = self;
+        let mut r = from;
+        while r < to {
+            p = p.iterate(r, s);
+            r = r + 1;
+        }
+        p
     }
 }
