@@ -11,6 +11,9 @@ ghost use Rattle.series.specs.Value.{value};
 ghost use Rattle.polynomial.specs.Polynomial.{poly, Clear};
 use field::Gf;
 
+// The product with no table, for the scalars of those who multiply polynomials.
+pub use kernel::product;
+
 // Coefficient i stands at index i.
 pub const COEFFICIENTS: usize = 49;
 
