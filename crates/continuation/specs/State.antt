@@ -3,12 +3,11 @@
 --   state f r S       the state of the form f after r iterations over S, the syndromes so far
 --   Reached f r S s   s is a solver in the form f in this state
 --
--- Proved: from the end of the rounds before, the entry of a round reaches this state (reached-enter), an iteration the next (reached-iterate), and
--- the last one is the round's end (reached-end).
-use Prim.Native.Nat.{ℕ, zero, suc, _+_, _≤_, _<_}
+-- Proved: from the end of the rounds before, the entry of a round reaches this state (reached-enter), its iterations lead to the last one
+-- (reached-run), and that is the round's end (reached-end).
+use Prim.Native.Nat.{ℕ, zero, suc, _+_, _-_, _≤_}
 use mathlib.Core.Path.{_≡_, refl, sym, ap, ap₂, _∙_, subst}
 use mathlib.Core.List.{List, [], _∷_, _++_, append-nil}
-use native.Mathlib.Numerals.{add-one}
 use native.Mathlib.Omega.{arith}
 use lib.ListN.{length, take, replicate, length-append}
 use Rattle.field.specs.Field.{F, 𝟎}
@@ -26,7 +25,7 @@ use Rattle.iteration.specs.Ends.{finish, finish-is, joined-append}
 use Rattle.solver.specs.declared.Form.{Form}
 use Rattle.solver.specs.declared.Form.the-variants.{Plain, Lookahead, Scaled}
 use Rattle.solver.specs.declared.Solver.{Solver}
-use Rattle.solver.specs.Solver.{form-of, state-of, Is, clip, clip-run}
+use Rattle.solver.specs.Solver.{form-of, state-of, Is, clip, turn, turns, clip-run}
 use Rattle.continuation.specs.Definition.{Ended, Next}
 
 -- ---- the state
@@ -110,7 +109,7 @@ entry-whole : (v : ℕ) (S : Series) → below v S → entry (word v S) ≡ S
 entry-whole v S past = word-cut v S ∙ below-cut-eq v S past
 
 module _ (rounds : List (List F)) (round : List F) (u v : ℕ) (S : Series) (next : Next rounds round u v S) where
-  pub next-rising : u ≤ v
+  next-rising : u ≤ v
   next-rising =
       omega (
         arith,
@@ -136,18 +135,28 @@ module _ (rounds : List (List F)) (round : List F) (u v : ℕ) (S : Series) (nex
         goes : Is f u p (form-of f .enter u S (state f u known))
         goes = enters f _ (ended-reached f rounds u S (next .from) s h)
 
-    pub reached-iterate : (s : Solver) (r : ℕ) → ((f : Form) (m : form-of f .State) → Is f r s m → Is f (r + 1) p (clip f (form-of f .iterate r S m)))
-        → r < v → Reached f r S s → Reached f (r + 1) S p
-    reached-iterate s r iterates l h =
-        (goes .0, goes .1 ∙ ap (clip f) (state-iterate f r S) ∙ whole ∙ ap (λ n. state f n S) (sym (add-one r)))
+    -- nothing is lost, turn after turn
+    turns-state : (n : ℕ) → u + n ≤ v → turns (turn f S) u n (state f u S) ≡ state f (u + n) S
+    unfolding turns
+    turns-state zero h = let e : u ≡ u + 0 = omega arith in ap (λ n. state f n S) e
+    turns-state (suc n) h =
+        let e : suc (u + n) ≡ u + suc n = omega arith in
+        ap (turn f S (u + n)) (turns-state n (omega arith)) ∙ ap (clip f) (state-iterate f (u + n) S) ∙ whole ∙ ap (λ n. state f n S) e
       where
-        goes : Is f (r + 1) p (clip f (form-of f .iterate r S (state f r S)))
-        goes = iterates f _ h
-
-        whole : clip f (state f (suc r) S) ≡ state f (suc r) S
+        whole : clip f (state f (suc (u + n)) S) ≡ state f (suc (u + n)) S
         whole =
-            subst (λ S. clip f (state f (suc r) S) ≡ state f (suc r) S) (entry-whole v S (next .past))
-            (state-whole f (word v S) (suc r) (omega (arith, length-word v S)) (omega (arith, length-word v S, next .few)))
+            subst (λ S. clip f (state f (suc (u + n)) S) ≡ state f (suc (u + n)) S) (entry-whole v S (next .past))
+            (state-whole f (word v S) (suc (u + n)) (omega (arith, length-word v S)) (omega (arith, length-word v S, next .few)))
+
+    pub reached-run : (s : Solver) → ((f : Form) (m : form-of f .State) → Is f u s m → Is f (u + (v - u)) p (turns (turn f S) u (v - u) m))
+        → Reached f u S s → Reached f v S p
+    reached-run s runs h = subst (λ n. Reached f n S p) at (goes .0, goes .1 ∙ turns-state (v - u) (omega (arith, next-rising)))
+      where
+        at : u + (v - u) ≡ v
+        at = omega (arith, next-rising)
+
+        goes : Is f (u + (v - u)) p (turns (turn f S) u (v - u) (state f u S))
+        goes = runs f _ h
 
     pub reached-end : Reached f v S p → Ended f (rounds ++ (round ∷ [])) p
     reached-end h = reached-ended f _ v S (next .to) p (h .0, h .1 ∙ ap (state f v) (sym (entry-whole v S (next .past))))

@@ -21,13 +21,7 @@ pub fn advance(s: Solver, from: u8, to: u8, row: [Gf; SYNDROMES]) -> Solver
     ensures { λ p. ⌜ Advanced from to (Row row) s p ⌝ }
 {
     let entered = s.enter(from, row);
-    let mut p = entered;
-    let mut r = from;
-    while r < to {
-        p = p.iterate(r, row);
-        r = r + 1;
-    }
-    p
+    entered.run(from, to, row)
 }
 
 // Λ in the form that the solver has: at the end of rounds that are the first n syndromes of S, a multiple of the measure's.

@@ -2,8 +2,10 @@
 --
 --   lookahead r p      the state of the definitions that p stands for, after r iterations
 --   clip-lookahead s   s with the first 49 coefficients of its polynomials: all that an array holds
+--   turn-lookahead     an iteration in 49 coefficients
 use Prim.Native.Nat.{ℕ}
 use Rattle.field.specs.Field.{val}
+use Rattle.series.specs.Series.{Series}
 use Rattle.series.specs.Shift.{cut}
 use Rattle.polynomial.specs.Polynomial.{poly}
 use Rattle.iteration.specs.Length.{k-of}
@@ -43,3 +45,6 @@ clip-lookahead s = record {
   h1 = s .h1;
   h2 = s .h2;
 }
+
+abbrev pub turn-lookahead : Series → ℕ → Lookahead.State → Lookahead.State
+turn-lookahead S r m = clip-lookahead (Lookahead.iterate r S m)

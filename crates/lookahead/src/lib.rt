@@ -1,5 +1,5 @@
 // The lookahead form of the key-equation solver: document 003, Algorithm 2. Every scalar is held before the iteration that uses it.
-ghost use Prim.Native.Nat.{_+_};
+ghost use Prim.Native.Nat.{_+_, _-_};
 ghost use mathlib.Core.Path.{_≡_};
 ghost use mathlib.Core.Bool.{true};
 ghost use Rattle.field.specs.Field.{val, _⊕_, _⊙_};
@@ -9,9 +9,11 @@ ghost use Rattle.polynomial.specs.Polynomial.{poly, row};
 ghost use Rattle.iteration.specs.Length.{k-of};
 ghost use Rattle.iteration.specs.Lookahead.{start as Start, enter as Enter, swap as Swap, hold as Hold, iterate as Iterate};
 ghost use Rattle.iteration.specs.Lookahead.{swapping, next-Λ, next-Δ, next-δS};
-ghost use Rattle.lookahead.specs.View.{lookahead, clip-lookahead};
+ghost use Rattle.swap.specs.Turns.{turns};
+ghost use Rattle.lookahead.specs.View.{lookahead, clip-lookahead, turn-lookahead};
 ghost use Rattle.lookahead.specs.Step.{stepped};
 use field::Gf;
+use polynomial::product;
 use syndromes::coefficient;
 
 // Λ, B, γ, the length L and the sums Δ and Θ; then what is held for iteration r, S being the syndromes so far and δ, θ the constant terms
@@ -37,8 +39,8 @@ pub struct Lookahead {
 fn two_products(a: Gf, b: Gf, c: Gf, d: Gf) -> Gf
     ensures { λ r. ⌜ val r ≡ val a ⊙ val b ⊕ val c ⊙ val d ⌝ }
 {
-    let p = a.product(b);
-    let q = c.product(d);
+    let p = product(a, b);
+    let q = product(c, d);
     p.sum(q)
 }
 
@@ -87,7 +89,7 @@ impl Lookahead {
         let g = self.gamma;
         let delta = self.delta;
         let theta = self.theta;
-        let g_s = g.product(s1);
+        let g_s = product(g, s1);
         Lookahead {
             locator: f,
             auxiliary: b,
@@ -96,12 +98,12 @@ impl Lookahead {
             delta: add_multiple(delta, s0, f),
             theta: add_multiple(theta, s0, b),
             gamma_s: g_s,
-            delta_s: two_products(s1, delta[0], s1.product(s0), f[0]),
-            theta_s: two_products(s2, theta[0], s2.product(s0), b[0]),
-            g1: s1.product(s3),
-            g2: s2.product(s3),
-            h1: g.product(s2),
-            h2: g_s.product(s2),
+            delta_s: two_products(s1, delta[0], product(s1, s0), f[0]),
+            theta_s: two_products(s2, theta[0], product(s2, s0), b[0]),
+            g1: product(s1, s3),
+            g2: product(s2, s3),
+            h1: product(g, s2),
+            h2: product(g_s, s2),
         }
     }
 
@@ -136,7 +138,7 @@ impl Lookahead {
         let f = self.locator;
         let delta = self.delta;
         let left = two_products(self.h1, delta[1], self.h2, f[0]);
-        let right = delta[0].product(self.theta_s);
+        let right = product(delta[0], self.theta_s);
         left.sum(right)
     }
 
@@ -165,13 +167,13 @@ impl Lookahead {
             length: length,
             delta: self.next_delta(),
             theta: theta,
-            gamma_s: gamma.product(s2),
+            gamma_s: product(gamma, s2),
             delta_s: self.next_delta_s(),
             theta_s: theta_s,
-            g1: s2.product(s4),
-            g2: s3.product(s4),
-            h1: gamma.product(s3),
-            h2: gamma.product(self.g2),
+            g1: product(s2, s4),
+            g2: product(s3, s4),
+            h1: product(gamma, s3),
+            h2: product(gamma, self.g2),
         }
     }
 
@@ -204,7 +206,7 @@ impl Lookahead {
         let theta = self.theta;
         let zb = shift::times_z(b);
         let next = add_multiple(theta, s1, zb);
-        let theta_s = s3.product(theta[0]);
+        let theta_s = product(s3, theta[0]);
         self.step(r, s, zb, self.gamma, self.length, next, theta_s)
     }
 
@@ -217,5 +219,17 @@ impl Lookahead {
             return self.swap(r, s);
         }
         self.hold(r, s)
+    }
+    // Iterations `from` to `to` - 1. There is none if `to` is not above `from`.
+    pub fn run(self, from: u8, to: u8, s: [Gf; 48]) -> Lookahead
+        ensures { λ p. ⌜ lookahead (from + (to - from)) p ≡ turns (turn-lookahead (row s)) from (to - from) (lookahead from self) ⌝ }
+    {
+        let mut p = self;
+        let mut r = from;
+        while r < to {
+            p = p.iterate(r, s);
+            r = r + 1;
+        }
+        p
     }
 }

@@ -1,10 +1,12 @@
 // The plain form of the key-equation solver.
-ghost use Prim.Native.Nat.{_+_};
+ghost use Prim.Native.Nat.{_+_, _-_};
 ghost use mathlib.Core.Path.{_≡_};
 ghost use Rattle.field.specs.Field.{val};
+ghost use Rattle.series.specs.Series.{Series};
 ghost use Rattle.polynomial.specs.Polynomial.{row};
 ghost use Rattle.iteration.specs.Plain.{start as Start, δ, iterate as Iterate};
-ghost use Rattle.plain.specs.View.{plain, clip-plain};
+ghost use Rattle.swap.specs.Turns.{turns};
+ghost use Rattle.plain.specs.View.{plain, clip-plain, turn-plain};
 use field::Gf;
 
 // Λ, B, γ and the length L. After r iterations k is r - 2L.
@@ -35,15 +37,14 @@ impl Plain {
         syndromes::convolve(locator, s, r as usize)
     }
 
-    // Iteration r. Polynomials have 49 coefficients: what would be above is lost.
-    pub fn iterate(self, r: u8, s: [Gf; 48]) -> Plain
-        ensures { λ p. ⌜ plain (r + 1) p ≡ clip-plain (Iterate r (row s) (plain r self)) ⌝ }
+    // Iteration r, with its discrepancy d.
+    fn step(self, r: u8, d: Gf) -> Plain
+        ensures { λ p. ⌜ ((S : Series) → val d ≡ δ r S (plain r self) → plain (r + 1) p ≡ clip-plain (Iterate r S (plain r self))) ⌝ }
     {
         let f = self.locator;
         let b = self.auxiliary;
         let g = self.gamma;
         let l = self.length;
-        let d = self.discrepancy(r, s);
         let zb = shift::times_z(b);
         let next = polynomial::combine(g, f, d, zb);
         if swap::swaps(d, l, r) {
@@ -60,5 +61,29 @@ impl Plain {
             gamma: g,
             length: l,
         }
+    }
+
+    // Iteration r. Polynomials have 49 coefficients: what would be above is lost.
+    pub fn iterate(self, r: u8, s: [Gf; 48]) -> Plain
+        ensures { λ p. ⌜ plain (r + 1) p ≡ clip-plain (Iterate r (row s) (plain r self)) ⌝ }
+    {
+        let d = self.discrepancy(r, s);
+        self.step(r, d)
+    }
+
+    // Iterations `from` to `to` - 1, with the table turned once for all of them. There is none if `to` is not above `from`.
+    pub fn run(self, from: u8, to: u8, s: [Gf; 48]) -> Plain
+        ensures { λ p. ⌜ plain (from + (to - from)) p ≡ turns (turn-plain (row s)) from (to - from) (plain from self) ⌝ }
+    {
+        let table = syndromes::turned(s);
+        let mut p = self;
+        let mut r = from;
+        while r < to {
+            let f = p.locator;
+            let d = syndromes::convolve_turned(f, &table, r as usize);
+            p = p.step(r, d);
+            r = r + 1;
+        }
+        p
     }
 }

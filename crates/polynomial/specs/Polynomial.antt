@@ -8,14 +8,15 @@
 -- Proved: coefficients that are zero, one by one and from there on (clear-more, below-clear).
 use Prim.Native.Nat.{ℕ, _+_, _≤_, _<_}
 use mathlib.Core.Path.{_≡_, sym, ap, ap₂, _∙_}
+use mathlib.Core.Bool.{Bool, true}
 use mathlib.Core.List.{List}
 use native.Mathlib.Decide.{ℕ-discrete, decLt}
 use native.Mathlib.Omega.{arith}
 use lib.Bits.{bitOr, or-add-and, and-le-l, and-le-r}
 use lib.ListN.{length, getD, replicate, length-replicate}
 use Rattle.field.specs.declared.Gf.{Gf}
-use Rattle.field.specs.Field.{F, 𝟎, val, val-zero, val-is-zero}
-use Rattle.series.specs.Series.{Series, O, K, Z, _⊞_, _⊠_}
+use Rattle.field.specs.Field.{F, 𝟎, val, val-zero, val-is-zero, isZero, isZero-true}
+use Rattle.series.specs.Series.{Series, O, K, Z, _⊞_, _⊠_, K-zero, zero-⊠}
 use Rattle.series.specs.Shift.{cut, cut-low, cut-none, cut-⊞, cut-K-⊠}
 use Rattle.series.specs.Degree.{below, below-cut, below-cut-eq, below-K-⊠}
 use Rattle.series.specs.Array.{values, read-at, read-zeros, below-values, Filled, filled-all}
@@ -61,6 +62,10 @@ row-zeros = row-values _ (length-replicate {A = Gf} 48 (record { 0 = 0 })) ∙ r
 -- an array that is filled with f, past the last coefficient of f
 pub poly-filled : {i : ℕ} {f : Series} {l : List Gf} (k : ℕ) → Filled 49 i f l → k ≤ i → below k f → poly l ≡ f
 poly-filled {l = l} k p h b = poly-values l (p .long) ∙ filled-all k p h b
+
+-- a scalar that is zero, as the code tells
+pub none-⊠ : (a : F) (f : Series) (z : Bool) → z ≡ isZero a → z ≡ true → K a ⊠ f ≡ O
+none-⊠ a f z e h = rw (isZero-true a (sym e ∙ h), K-zero) (zero-⊠ f)
 
 -- ---- coefficients that are zero
 

@@ -11,6 +11,9 @@ ghost use Rattle.series.specs.Value.{value};
 ghost use Rattle.polynomial.specs.Polynomial.{poly, Clear};
 use field::Gf;
 
+// The product with no table, for the scalars of those who multiply polynomials.
+pub use kernel::product;
+
 // Coefficient i stands at index i.
 pub const COEFFICIENTS: usize = 49;
 
@@ -65,6 +68,9 @@ pub fn scale(a: Gf, f: [Gf; COEFFICIENTS]) -> [Gf; COEFFICIENTS]
     if a.is_zero() {
         return out;
     }
+    if a.0 == 1 {
+        return f;
+    }
     let n = extent(f);
     let mut i: usize = 0;
     while i < n {
@@ -86,11 +92,14 @@ pub fn sum(f: [Gf; COEFFICIENTS], g: [Gf; COEFFICIENTS]) -> [Gf; COEFFICIENTS]
     out
 }
 
-// a f + b g
+// a f + b g. In most iterations of a solver b is zero.
 pub fn combine(a: Gf, f: [Gf; COEFFICIENTS], b: Gf, g: [Gf; COEFFICIENTS]) -> [Gf; COEFFICIENTS]
     ensures { λ r. ⌜ poly r ≡ K (val a) ⊠ poly f ⊞ K (val b) ⊠ poly g ⌝ }
 {
     let p = scale(a, f);
+    if b.is_zero() {
+        return p;
+    }
     let q = scale(b, g);
     sum(p, q)
 }

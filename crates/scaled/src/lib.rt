@@ -1,5 +1,5 @@
 // The scaled form of the key-equation solver: document 01's text. Four products of a scalar and a polynomial serve every line of an iteration.
-ghost use Prim.Native.Nat.{ℕ, _+_};
+ghost use Prim.Native.Nat.{ℕ, _+_, _-_};
 ghost use mathlib.Core.Path.{_≡_};
 ghost use mathlib.Core.Bool.{cond};
 ghost use Rattle.field.specs.Field.{𝟏, val, isZero};
@@ -8,8 +8,10 @@ ghost use Rattle.series.specs.Shift.{cut};
 ghost use Rattle.polynomial.specs.Polynomial.{poly, row};
 ghost use Rattle.iteration.specs.Length.{k-of};
 ghost use Rattle.iteration.specs.Scaled.{unless, ratio as Ratio, holding as Holding, start as Start, enter as Enter, iterate as Iterate};
-ghost use Rattle.scaled.specs.View.{scaled, clip-scaled, Products-of, stepped};
+ghost use Rattle.swap.specs.Turns.{turns};
+ghost use Rattle.scaled.specs.View.{scaled, clip-scaled, turn-scaled, Products-of, stepped};
 use field::Gf;
+use polynomial::product;
 use syndromes::coefficient;
 
 // Λ, B, γ', the length L, Δ and Θ. After r iterations k is r - 2L, and the scalars are held for iteration r: with d the constant term of Δ,
@@ -72,7 +74,7 @@ fn ratio(r: u16, s: [Gf; 48]) -> Gf
     let y = coefficient(s, r as usize + 1);
     let below = one_if_zero(x, x);
     let above = one_if_zero(y, y);
-    above.product(below.inverse())
+    product(above, below.inverse())
 }
 
 // The state with these, and the scalars for iteration r.
@@ -91,8 +93,8 @@ fn holding(
     let d = delta[0];
     let g = ratio(r, s);
     let rho = one_if_zero(d, gamma);
-    let rho_s = g.product(rho);
-    let xi_s = g.product(d);
+    let rho_s = product(g, rho);
+    let xi_s = product(g, d);
     Scaled {
         locator: locator,
         auxiliary: auxiliary,
@@ -211,7 +213,7 @@ impl Scaled {
         if swap::swaps(d, l, r) {
             let f = p.locator;
             let t = p.delta;
-            let gamma = self.rho.product(d);
+            let gamma = product(self.rho, d);
             let length = swap::next_length(l, r);
             return step(n, s, p, f, t, gamma, length);
         }
@@ -221,7 +223,19 @@ impl Scaled {
         }
         let zb = p.auxiliary;
         let t = p.theta;
-        let gamma = self.xi.product(self.gamma);
+        let gamma = product(self.xi, self.gamma);
         step(n, s, p, zb, t, gamma, l)
+    }
+    // Iterations `from` to `to` - 1. There is none if `to` is not above `from`.
+    pub fn run(self, from: u8, to: u8, s: [Gf; 48]) -> Scaled
+        ensures { λ p. ⌜ scaled (from + (to - from)) p ≡ turns (turn-scaled (row s)) from (to - from) (scaled from self) ⌝ }
+    {
+        let mut p = self;
+        let mut r = from;
+        while r < to {
+            p = p.iterate(r, s);
+            r = r + 1;
+        }
+        p
     }
 }

@@ -5,6 +5,7 @@
 --   Is f r s m        s is a solver in the form f, in the state m after r iterations
 --   k-in f m          k of such a state
 --   clip f m          m with the first 49 coefficients of its polynomials: all that an array holds
+--   turn f S r m      m after iteration r over S, clipped
 --
 -- Proved: what holds in the form that a solver has, holds in the form that it is said to have (for-form); a run of at most 48 syndromes loses
 -- nothing by clip (clip-run).
@@ -14,6 +15,7 @@ use mathlib.Core.List.{List}
 use lib.IntN.{ℤ}
 use lib.ListN.{length}
 use Rattle.field.specs.Field.{F}
+use Rattle.series.specs.Series.{Series}
 use Rattle.series.specs.Degree.{below-cut-eq}
 use Rattle.iteration.specs.Run as Run
 use Rattle.iteration.specs.Agreement.{fits}
@@ -23,6 +25,7 @@ use Rattle.scaled.specs.declared.Scaled.{Scaled as ScaledSolver}
 use Rattle.plain.specs.View.{plain, clip-plain}
 use Rattle.lookahead.specs.View.{lookahead, clip-lookahead}
 use Rattle.scaled.specs.View.{scaled, clip-scaled}
+unfoldable pub use Rattle.swap.specs.Turns.{turns}
 use Rattle.solver.specs.declared.Form.{Form}
 use Rattle.solver.specs.declared.Form.the-variants.{Plain, Lookahead, Scaled}
 use Rattle.solver.specs.declared.Solver.{Solver}
@@ -49,6 +52,9 @@ abbrev pub clip : (f : Form) → form-of f .State → form-of f .State
 clip Plain = clip-plain
 clip Lookahead = clip-lookahead
 clip Scaled = clip-scaled
+
+abbrev pub turn : (f : Form) → Series → ℕ → form-of f .State → form-of f .State
+turn f S r m = clip f (form-of f .iterate r S m)
 
 -- what holds in the form that a solver has, holds in the form that it is said to have
 pub for-form : {g : Form} (P : (f : Form) → form-of f .State → Type 0) (s : Solver) (r : ℕ) → s .form ≡ g → P g (state-of g r s)

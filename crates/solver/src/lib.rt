@@ -1,9 +1,9 @@
 // A key-equation solver in a named form.
-ghost use Prim.Native.Nat.{ℕ, _+_};
+ghost use Prim.Native.Nat.{ℕ, _+_, _-_};
 ghost use mathlib.Core.Path.{_≡_};
 ghost use Rattle.polynomial.specs.Polynomial.{row};
 ghost use Rattle.iteration.specs.Length.{k-of};
-ghost use Rattle.solver.specs.Solver.{form-of, Is, clip, k-in};
+ghost use Rattle.solver.specs.Solver.{form-of, Is, clip, turn, turns, k-in};
 use field::Gf;
 use lookahead::Lookahead;
 use plain::Plain;
@@ -95,6 +95,37 @@ impl Solver {
                 plain: p,
                 lookahead: l,
                 scaled: c.iterate(r, s),
+            },
+        }
+    }
+
+    // Iterations `from` to `to` - 1, with one look at the form. There is none if `to` is not above `from`.
+    pub fn run(self, from: u8, to: u8, s: [Gf; 48]) -> Solver
+        ensures { λ p. ⌜ ((f : Form) (m : form-of f .State) → Is f from self m
+            → Is f (from + (to - from)) p (turns (turn f (row s)) from (to - from) m)) ⌝ }
+    {
+        let form = self.form;
+        let p = self.plain;
+        let l = self.lookahead;
+        let c = self.scaled;
+        match form {
+            Form::Plain => Solver {
+                form: form,
+                plain: p.run(from, to, s),
+                lookahead: l,
+                scaled: c,
+            },
+            Form::Lookahead => Solver {
+                form: form,
+                plain: p,
+                lookahead: l.run(from, to, s),
+                scaled: c,
+            },
+            Form::Scaled => Solver {
+                form: form,
+                plain: p,
+                lookahead: l,
+                scaled: c.run(from, to, s),
             },
         }
     }

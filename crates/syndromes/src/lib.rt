@@ -1,9 +1,10 @@
 // Tables of 48 syndromes: an entry, a coefficient of the product with a polynomial, whether all are zero.
-ghost use Prim.Native.Nat.{_-_};
+ghost use Prim.Native.Nat.{_+_, _≤_};
 ghost use mathlib.Core.Path.{_≡_};
 ghost use Rattle.field.specs.Field.{_⊙_, val};
-ghost use Rattle.series.specs.Series.{_⊠_};
-ghost use Rattle.series.specs.Shift.{cut};
+ghost use Rattle.series.specs.Series.{Series, _⊠_};
+ghost use Rattle.series.specs.Degree.{below};
+ghost use Rattle.series.specs.Array.{bytes};
 ghost use Rattle.series.specs.Decide.{holds};
 ghost use Rattle.polynomial.specs.Polynomial.{poly, row as Row};
 ghost use Rattle.syndromes.specs.Zero.{zero?};
@@ -11,6 +12,12 @@ ghost use Rattle.syndromes.specs.Turned.{turned as Turned};
 use field::Gf;
 use polynomial::COEFFICIENTS;
 use polynomial::SYNDROMES;
+
+// The highest coefficient of a product that may differ from zero.
+const HIGHEST: usize = 95;
+
+// Room for 49 entries from any index up to HIGHEST on.
+const TURNED: usize = 144;
 
 // Zero past the table's end.
 pub fn coefficient(s: [Gf; SYNDROMES], i: usize) -> Gf
@@ -22,59 +29,43 @@ pub fn coefficient(s: [Gf; SYNDROMES], i: usize) -> Gf
     Gf::ZERO
 }
 
-// The first term of coefficient r of a product with a table of syndromes: below it the table is read past its end.
-fn first_term(r: usize) -> usize
-    ensures { λ i. ⌜ i ≡ r - 47 ⌝ }
+// The syndromes from 95 down, 48 zeros and S_47 to S_0, then zeros: coefficient r of a product reads them from index 95 - r on.
+pub fn turned(s: [Gf; SYNDROMES]) -> [u8; TURNED]
+    ensures { λ t. ⌜ bytes t ≡ Turned 95 (Row s) ⌝ }
 {
-    if r < SYNDROMES {
-        return 0;
-    }
-    r - (SYNDROMES - 1)
-}
-
-// One more than the last term: the lesser of r + 1 and 49.
-fn end_of_terms(r: usize) -> usize
-    ensures { λ n. ⌜ n ≡ 49 - (48 - r) ⌝ }
-{
-    if r < COEFFICIENTS {
-        return r + 1;
-    }
-    COEFFICIENTS
-}
-
-// The syndromes from r down, zeros where there is none.
-fn turned(s: [Gf; SYNDROMES], r: usize) -> [Gf; COEFFICIENTS]
-    ensures { λ t. ⌜ poly t ≡ cut 49 (Turned r (Row s)) ⌝ }
-{
-    let end = end_of_terms(r);
-    let mut down = [Gf::ZERO; COEFFICIENTS];
-    let mut i: usize = first_term(r);
-    while i < end {
-        down[i] = s[r - i];
+    let mut down = [0u8; TURNED];
+    let mut i: usize = SYNDROMES;
+    while i <= HIGHEST {
+        let g = s[HIGHEST - i];
+        down[i] = g.0;
         i = i + 1;
     }
     down
 }
 
-// The products of coefficients with the same index, many at a time.
-fn products(f: [Gf; COEFFICIENTS], g: [Gf; COEFFICIENTS]) -> [Gf; COEFFICIENTS]
-    ensures { λ r. ⌜ poly r ≡ (λ i. poly f i ⊙ poly g i) ⌝ }
+// The products of coefficients with entries from `at` on, many at a time.
+fn products(f: [Gf; COEFFICIENTS], t: &[u8; TURNED], at: usize) -> [Gf; COEFFICIENTS]
+    requires { ⌜ at ≤ 95 ⌝ }
+    ensures { λ r. ⌜ poly r ≡ (λ i. poly f i ⊙ bytes (now (t .entry)) (at + i)) ⌝ }
 {
+    let n = polynomial::extent(f);
     let mut out = [Gf::ZERO; COEFFICIENTS];
     let mut q: usize = 0;
-    while q < COEFFICIENTS {
-        out[q] = kernel::product(f[q], g[q]);
+    while q < n {
+        out[q] = kernel::product(f[q], Gf(t[at + q]));
         q = q + 1;
     }
     out
 }
 
-// Coefficient r of the product.
-pub fn convolve(f: [Gf; COEFFICIENTS], s: [Gf; SYNDROMES], r: usize) -> Gf
-    ensures { λ d. ⌜ val d ≡ (poly f ⊠ Row s) r ⌝ }
+// Coefficient r of the product with the series that t has turned.
+pub fn convolve_turned(f: [Gf; COEFFICIENTS], t: &[u8; TURNED], r: usize) -> Gf
+    ensures { λ d. ⌜ ((g : Series) → below 48 g → bytes (now (t .entry)) ≡ Turned 95 g → val d ≡ (poly f ⊠ g) r) ⌝ }
 {
-    let t = turned(s, r);
-    let p = products(f, t);
+    if r > HIGHEST {
+        return Gf::ZERO;
+    }
+    let p = products(f, t, HIGHEST - r);
     let mut d = Gf::ZERO;
     let mut j: usize = 0;
     while j < COEFFICIENTS {
@@ -82,6 +73,14 @@ pub fn convolve(f: [Gf; COEFFICIENTS], s: [Gf; SYNDROMES], r: usize) -> Gf
         j = j + 1;
     }
     d
+}
+
+// Coefficient r of the product.
+pub fn convolve(f: [Gf; COEFFICIENTS], s: [Gf; SYNDROMES], r: usize) -> Gf
+    ensures { λ d. ⌜ val d ≡ (poly f ⊠ Row s) r ⌝ }
+{
+    let t = turned(s);
+    convolve_turned(f, &t, r)
 }
 
 // Whether a table is zero: the pattern of zeros settles its subword, and no solver is needed.

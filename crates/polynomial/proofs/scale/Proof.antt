@@ -1,12 +1,12 @@
 -- Entry i gets a·f[i], coefficient i of the product; past the extent f is zero.
 use Prim.Native.Nat.{_-_}
-use mathlib.Core.Path.{_≡_, refl, sym, ap₂, _∙_}
+use mathlib.Core.Path.{_≡_, refl, sym, ap, ap₂, _∙_}
 use native.Mathlib.Omega.{arith}
-use Rattle.field.specs.Field.{F, 𝟎, _⊙_, val, isZero-true}
-use Rattle.series.specs.Series.{Series, O, K, _⊠_, K-⊠-at, K-zero, zero-⊠}
+use Rattle.field.specs.Field.{𝟏, _⊙_, of, val, val-of, of-one}
+use Rattle.series.specs.Series.{K, _⊠_, K-⊠-at, one-⊠}
 use Rattle.series.specs.Degree.{below-K-⊠, below-O}
 use Rattle.series.specs.Array.{Filled, filled-none, filled-more}
-use Rattle.polynomial.specs.Polynomial.{poly, poly-at, below-poly, poly-filled}
+use Rattle.polynomial.specs.Polynomial.{poly, poly-at, poly-filled, none-⊠}
 use borrow.Author.Needs.{needs}
 use Rattle.polynomial.proofs.scale.Statement.{statement}
 use Rattle.polynomial.proofs.scale.Tie as tie
@@ -21,12 +21,13 @@ is-zero-requires : tie.Need-is-zero-requires Inv-loop μ-loop
 is-zero-requires c κs = search needs
 
 returns : tie.Need-returns Inv-loop μ-loop
-returns c =
-    poly-filled 0 (filled-none 49 _) (omega arith) (below-O 0)
-    ∙ sym (none _ _ (isZero-true _ (sym (c .before .is-zero .ensures) ∙ c .if1 .taken)))
-  where
-    none : (a : F) (f : Series) → a ≡ 𝟎 → K a ⊠ f ≡ O
-    none a f e = rw (e, K-zero) (zero-⊠ f)
+returns c = poly-filled 0 (filled-none 49 _) (omega arith) (below-O 0) ∙ sym (none-⊠ _ _ _ (c .before .is-zero .ensures) (c .if1 .taken))
+
+returns-2 : tie.Need-returns-2 Inv-loop μ-loop
+returns-2 c =
+    let given = c .before .before .before .before .args in
+    let e : val (given .a) ≡ 𝟏 = val-of (given .a) ∙ ap of (c .if2 .taken) ∙ of-one in
+    sym (ap (λ a. K a ⊠ poly (given .t2)) e ∙ one-⊠ _)
 
 extent-requires : tie.Need-extent-requires Inv-loop μ-loop
 extent-requires c κs = search needs
@@ -54,8 +55,8 @@ loop-again c =
     let turn = c .before .before in
     filled-more _ (turn .before .loop .inv) (omega arith) (c .product .ensures ∙ sym (K-⊠-at _ _ _ ∙ ap₂ _⊙_ refl (poly-at _ _ (omega arith))))
 
-returns-2 : tie.Need-returns-2 Inv-loop μ-loop
-returns-2 c =
+returns-3 : tie.Need-returns-3 Inv-loop μ-loop
+returns-3 c =
     poly-filled _ (c .before .loop .inv) (c .loop-test .left) (below-K-⊠ _ _ _ (c .before .before .extent .ensures .0))
 
 pub scale-spec : {M : Type 1} → statement M
@@ -66,6 +67,7 @@ scale-spec =
     μ-loop
     is-zero-requires
     returns
+    returns-2
     extent-requires
     loop-holds
     array-copy-out-product
@@ -74,4 +76,4 @@ scale-spec =
     add-i
     loop-less
     loop-again
-    returns-2)
+    returns-3)

@@ -1,67 +1,17 @@
--- d is the sum of the first j products.
-use Prim.Native.Nat.{_-_, _≤_}
-use mathlib.Core.Path.{_≡_, sym, ap₂, _∙_}
-use native.Mathlib.Omega.{arith}
-use Rattle.field.specs.Field.{_⊕_, val, val-zero}
-use Rattle.series.specs.Sum.{sum, sum-none}
-use Rattle.polynomial.specs.Polynomial.{poly, poly-at, below-poly}
-use Rattle.syndromes.specs.Turned.{sum-next, turned-sum}
+-- The table, turned.
+use Rattle.polynomial.specs.Polynomial.{below-row}
 use borrow.Author.Needs.{needs}
 use Rattle.syndromes.proofs.convolve.Statement.{statement}
 use Rattle.syndromes.proofs.convolve.Tie as tie
 
-abbrev Inv-loop : tie.InvT-loop
-Inv-loop r p d₀ j₀ d j = (j ≤ 49) × (val d ≡ sum j (poly p))
-
-abbrev μ-loop : tie.MeasureT-loop
-μ-loop r p d₀ j₀ d j = 49 - j
-
-turned-requires : tie.Need-turned-requires Inv-loop μ-loop
+turned-requires : tie.Need-turned-requires
 turned-requires c κs = search needs
 
-products-requires : tie.Need-products-requires Inv-loop μ-loop
-products-requires c κs = search needs
+convolve-turned-requires : tie.Need-convolve-turned-requires
+convolve-turned-requires c κs = search needs
 
-loop-holds : tie.Need-loop-holds Inv-loop μ-loop
-loop-holds c = (search needs, val-zero ∙ sym (sum-none _))
-
-array-copy-out-sum : tie.Need-array-copy-out-sum Inv-loop μ-loop
-array-copy-out-sum c = search needs
-
-sum-requires : tie.Need-sum-requires Inv-loop μ-loop
-sum-requires c κs = search needs
-
-add-j : tie.Need-add-j Inv-loop μ-loop
-add-j c = search needs
-
-loop-less : tie.Need-loop-less Inv-loop μ-loop
-loop-less c = search needs
-
-loop-again : tie.Need-loop-again Inv-loop μ-loop
-loop-again c =
-    let turn = c .before .before in
-    let inv = turn .before .loop .inv in
-    let l = turn .loop-test .taken in
-    (omega arith, c .sum .ensures ∙ ap₂ _⊕_ (inv .1) (sym (poly-at _ _ l)) ∙ sym (sum-next _ _))
-
-returns : tie.Need-returns Inv-loop μ-loop
-returns c =
-    let end = c .before .loop in
-    let made = c .before .before in
-    end .inv .1 ∙ turned-sum _ _ _ _ _ _ (omega arith) (below-poly _) (made .before .turned .ensures) (made .products .ensures)
+returns : tie.Need-returns
+returns c = c .convolve-turned .ensures _ (below-row _) (c .before .before .turned .ensures)
 
 pub convolve-spec : {M : Type 1} → statement M
-convolve-spec =
-    tie.close
-    (tie.spec
-    Inv-loop
-    μ-loop
-    turned-requires
-    products-requires
-    loop-holds
-    array-copy-out-sum
-    sum-requires
-    add-j
-    loop-less
-    loop-again
-    returns)
+convolve-spec = tie.close (tie.spec turned-requires convolve-turned-requires returns)

@@ -1,8 +1,11 @@
--- The first i stand; those before first_term are zero.
-use Prim.Native.Nat.{_-_, _+_, _≤_}
-use mathlib.Core.Path.{sym, _∙_}
+-- The first i stand; those before 48 are zero.
+use Prim.Native.Nat.{ℕ, _-_, _≤_}
+use mathlib.Core.Path.{_≡_, sym, _∙_}
 use native.Mathlib.Omega.{arith}
-use Rattle.series.specs.Array.{Filled, filled-more}
+use lib.ListN.{length, length-set, length-replicate}
+use Rattle.field.specs.Field.{of, val-of}
+use Rattle.series.specs.Shift.{cut}
+use Rattle.series.specs.Array.{bytes, read-store}
 use Rattle.polynomial.specs.Polynomial.{row, row-at, below-row}
 use Rattle.syndromes.specs.Turned.{turned, turned-at, turned-none, turned-all}
 use borrow.Author.Needs.{needs}
@@ -10,28 +13,19 @@ use Rattle.syndromes.proofs.turned.Statement.{statement}
 use Rattle.syndromes.proofs.turned.Tie as tie
 
 abbrev Inv-loop : tie.InvT-loop
-Inv-loop r s end down₀ i₀ down i = (i ≤ r + 1) × (r ≤ i + 47) × Filled 49 i (turned r (row s)) down
+Inv-loop s down₀ i₀ down i = (48 ≤ i) × (i ≤ 96) × (length down ≡ 144) × (bytes down ≡ cut i (turned 95 (row s)))
 
 abbrev μ-loop : tie.MeasureT-loop
-μ-loop r s end down₀ i₀ down i = 49 - i
-
-end-of-terms-requires : tie.Need-end-of-terms-requires Inv-loop μ-loop
-end-of-terms-requires c κs = search needs
-
-first-term-requires : tie.Need-first-term-requires Inv-loop μ-loop
-first-term-requires c κs = search needs
+μ-loop s down₀ i₀ down i = 96 - i
 
 loop-holds : tie.Need-loop-holds Inv-loop μ-loop
-loop-holds c = (omega arith, omega arith, turned-none _ _ _ (below-row _) (c .first-term .ensures))
+loop-holds c = (search needs, search needs, length-replicate {A = ℕ} 144 0, turned-none _ (below-row _))
 
-sub-down : tie.Need-sub-down Inv-loop μ-loop
-sub-down c = search needs
+array-copy-out-g : tie.Need-array-copy-out-g Inv-loop μ-loop
+array-copy-out-g c = search needs
 
-array-copy-out-down : tie.Need-array-copy-out-down Inv-loop μ-loop
-array-copy-out-down c = search needs
-
-array-set-from-down : tie.Need-array-set-from-down Inv-loop μ-loop
-array-set-from-down c = search needs
+array-write-down : tie.Need-array-write-down Inv-loop μ-loop
+array-write-down c = search needs
 
 add-i : tie.Need-add-i Inv-loop μ-loop
 add-i c = search needs
@@ -41,16 +35,16 @@ loop-less c = search needs
 
 loop-again : tie.Need-loop-again Inv-loop μ-loop
 loop-again c =
-    let inv = c .before .before .loop .inv in (
+    let now = c .before .before .loop in (
       omega arith,
       omega arith,
-      filled-more _ (inv .2) (omega arith) (sym (turned-at _ _ _ (omega arith) ∙ row-at _ _ (omega arith))),
+      length-set (now .down) (now .i) _ ∙ now .inv .2,
+      read-store of 0 (now .down) (now .i) _ _ (omega (arith, now .inv .2)) (now .inv .3)
+          (sym (turned-at 95 _ (now .i) (omega arith) ∙ row-at _ _ (omega arith) ∙ val-of _)),
     )
 
 returns : tie.Need-returns Inv-loop μ-loop
-returns c =
-    let end = c .before .loop in
-    turned-all _ _ (end .i) _ (end .inv .2) (λ h. omega arith)
+returns c = turned-all _ _ _ (omega arith) (c .before .loop .inv .3)
 
 pub turned-spec : {M : Type 1} → statement M
 turned-spec =
@@ -58,12 +52,9 @@ turned-spec =
     (tie.spec
     Inv-loop
     μ-loop
-    end-of-terms-requires
-    first-term-requires
     loop-holds
-    sub-down
-    array-copy-out-down
-    array-set-from-down
+    array-copy-out-g
+    array-write-down
     add-i
     loop-less
     loop-again
