@@ -32,14 +32,14 @@ pub struct Located {
     pub pattern: [Gf; 255],
 }
 
-// Row i multiplies by W i. The first k stand.
+// Row i multiplies by W i, for i from 1 to k - 1: the term with no z is the same everywhere, and has none.
 fn step_rows(k: usize) -> [[u8; 256]; TERMS]
-    requires { ⌜ k ≤ 25 ⌝ }
+    requires { ⌜ (0 < k) × (k ≤ 25) ⌝ }
     ensures { λ r. ⌜ Rows k r ⌝ }
 {
     let blank = [0u8; 256];
     let mut rows = [blank; TERMS];
-    let mut i: usize = 0;
+    let mut i: usize = 1;
     while i < k {
         let row = kernel::product_row(Exponent(255 - i).power());
         rows[i] = row;
@@ -93,11 +93,11 @@ fn odd_total(at: &[u8], k: usize) -> Gf
 
 // The terms at the next position, and their sum.
 fn advance(rows: &[[u8; 256]; TERMS], at: &mut [u8], k: usize) -> Gf
-    requires { ⌜ (k ≤ 25) × (k ≤ length (now at)) × Rows k (now rows) × below k (bytes (now at)) ⌝ }
+    requires { ⌜ (0 < k) × (k ≤ 25) × (k ≤ length (now at)) × Rows k (now rows) × below k (bytes (now at)) ⌝ }
     ensures { λ r. ⌜ (bytes (now (at .exit)) ≡ terms (W 1) (bytes (now (at .entry)))) × (val r ≡ sum k (bytes (now (at .exit)))) ⌝ }
 {
-    let mut v: u8 = 0;
-    let mut i: usize = 0;
+    let mut v: u8 = at[0];
+    let mut i: usize = 1;
     while i < k {
         let x = rows[i][wide(at[i])];
         at[i] = x;
