@@ -1,5 +1,4 @@
--- Located names what `locate` promises; Walk and One hold what it goes by, Numerator what `numerator` does.
+-- Located names what `locate` promises; Walk and One hold what it goes by.
 pub mod Walk
 pub mod Located
 pub mod One
-pub mod Numerator

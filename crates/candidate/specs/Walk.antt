@@ -1,12 +1,12 @@
 -- The terms of a polynomial's value, from position to position.
 --
 --   terms x f         the terms of f's value at x: coefficient i times x^i
---   Rows k l          row i of l holds the products with W i, for i below k
+--   Rows k l          row i of l holds the products with W i, for i from 1 to k - 1
 --   Stepped x i f l   the first i bytes of l are the terms of f at x, the others are those of f
 --
 -- Proved: a value is the sum of its terms (value-terms), and the odd part's value the sum of the odd ones (value-odd-terms); the terms at W 0 are the
 -- coefficients (terms-first), those at W (p + 1) come from those at W p (terms-next). A loop that makes rows keeps `Rows` (rows-none, rows-more), one
--- that goes to the next position `Stepped` (stepped-none, stepped-more, stepped-all).
+-- that goes to the next position `Stepped` (stepped-first, stepped-more, stepped-all).
 use Prim.Native.Nat.{ℕ, zero, suc, _+_, _≤_, _<_, _%_}
 use mathlib.Core.Path.{_≡_, refl, sym, ap, ap₂, _∙_, fun-ext}
 use mathlib.Core.List.{List, []}
@@ -86,18 +86,18 @@ terms-next p f = fun-ext (λ i. rw (terms-at, terms-at, terms-at, W-suc p, pow-�
 -- ---- rows
 
 pub record Rows (k : ℕ) (l : List (List ℕ)) : Type 0 where
-  pub at : (i x : ℕ) → i < k → x < 256 → of (getD (getD l i []) x 0) ≡ of x ⊙ pow (W 1) i
+  pub at : (i x : ℕ) → 0 < i → i < k → x < 256 → of (getD (getD l i []) x 0) ≡ of x ⊙ pow (W 1) i
 
 -- a term at the next position
-pub rows-term : {k : ℕ} {l : List (List ℕ)} (f : Series) (i x y : ℕ) → Rows k l → i < k → x < 256 → y ≡ getD (getD l i []) x 0 → of x ≡ f i → of y ≡ terms (W 1) f i
-rows-term f i x y p h b e q = ap of e ∙ p .at i x h b ∙ ap (λ t. t ⊙ pow (W 1) i) q ∙ sym (terms-at _ f i)
+pub rows-term : {k : ℕ} {l : List (List ℕ)} (f : Series) (i x y : ℕ) → Rows k l → 0 < i → i < k → x < 256 → y ≡ getD (getD l i []) x 0 → of x ≡ f i → of y ≡ terms (W 1) f i
+rows-term f i x y p z h b e q = ap of e ∙ p .at i x z h b ∙ ap (λ t. t ⊙ pow (W 1) i) q ∙ sym (terms-at _ f i)
 
-pub rows-none : (l : List (List ℕ)) → Rows 0 l
-rows-none l = record { at = λ i x h b. absurd (omega arith) }
+pub rows-none : (l : List (List ℕ)) → Rows 1 l
+rows-none l = record { at = λ i x z h b. absurd (omega arith) }
 
 pub rows-more : {i : ℕ} {l : List (List ℕ)} (r : List ℕ) (c : F) → Rows i l → i < length l → length r ≡ 256 → bytes r ≡ cut 256 (products c) → c ≡ W i
     → Rows (i + 1) (set l i r)
-rows-more {i} {l} r c p h n e q = record { at = λ j x g b. go j x g b (ℕ-discrete j i) }
+rows-more {i} {l} r c p h n e q = record { at = λ j x z g b. go j x z g b (ℕ-discrete j i) }
   where
     row : (x : ℕ) → x < 256 → of (getD r x 0) ≡ of x ⊙ pow (W 1) i
     row x b =
@@ -106,9 +106,9 @@ rows-more {i} {l} r c p h n e q = record { at = λ j x g b. go j x g b (ℕ-disc
         ∙ ap (λ t. t ⊙ of x) (factor-products r c e ∙ q ∙ W-power i)
         ∙ simp ⊙-ring
 
-    go : (j x : ℕ) → j < i + 1 → x < 256 → Dec (j ≡ i) → of (getD (getD (set l i r) j []) x 0) ≡ of x ⊙ pow (W 1) j
-    go j x g b (yes s) = rw (s, getD-set-same l i r [] h) (row x b)
-    go j x g b (no s) = rw (getD-set-other l i j r [] s) (p .at j x (omega arith) b)
+    go : (j x : ℕ) → 0 < j → j < i + 1 → x < 256 → Dec (j ≡ i) → of (getD (getD (set l i r) j []) x 0) ≡ of x ⊙ pow (W 1) j
+    go j x z g b (yes s) = rw (s, getD-set-same l i r [] h) (row x b)
+    go j x z g b (no s) = rw (getD-set-other l i j r [] s) (p .at j x z (omega arith) b)
 
 -- ---- one position on
 
@@ -116,8 +116,15 @@ pub record Stepped (x : F) (i : ℕ) (f : Series) (l : List ℕ) : Type 0 where
   pub low : (j : ℕ) → j < i → bytes l j ≡ terms x f j
   pub high : (j : ℕ) → i ≤ j → bytes l j ≡ f j
 
-pub stepped-none : (x : F) (l : List ℕ) → Stepped x 0 (bytes l) l
-stepped-none x l = record { low = λ j h. absurd (omega arith); high = λ j h. refl }
+-- the first term stays
+terms-zero : (x : F) (f : Series) → terms x f 0 ≡ f 0
+terms-zero x f = terms-at x f 0 ∙ rw pow-zero (⊙-one _)
+
+pub terms-sum-first : (x : F) (f : Series) → sum 1 (terms x f) ≡ f 0
+terms-sum-first x f = sum-suc 0 _ ∙ rw (sum-none, terms-zero) (zero-⊕ _)
+
+pub stepped-first : (x : F) (l : List ℕ) → Stepped x 1 (bytes l) l
+stepped-first x l = record { low = λ j h. let e : j ≡ 0 = omega arith in rw e (sym (terms-zero x (bytes l))); high = λ j h. refl }
 
 pub stepped-more : {x : F} {i : ℕ} {f : Series} {l : List ℕ} (v : ℕ) → Stepped x i f l → i < length l → of v ≡ terms x f i
     → Stepped x (i + 1) f (set l i v)

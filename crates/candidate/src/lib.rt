@@ -1,19 +1,18 @@
 // The error pattern that a locator puts forward, whatever the locator is. What the promises speak of stands in settle's specs/Candidate.antt, and for
 // the walk over the positions in specs/Located.antt.
-// At position p, with w = W p, stand the terms of the locator's value at w; from a position to the next term i is multiplied by W i, by a row of
-// products. At a root the locator and the numerator put a change forward.
+// One root is found by logarithms. For more a walk: at position p, with w = W p, stand the terms of the locator's value at w; from a position to the
+// next term i is multiplied by W i, by a row of products. At a root the locator and the numerator put a change forward.
 ghost use Prim.Native.Nat.{_+_, _-_, _≤_, _<_};
 ghost use mathlib.Core.Path.{_≡_};
 ghost use mathlib.Core.Logic.{_≢_, ite};
 ghost use lib.ListN.{length};
 ghost use Rattle.field.specs.Field.{𝟎, _⊙_, _≟_, inv, val};
 ghost use Rattle.series.specs.Sum.{sum};
-ghost use Rattle.series.specs.Series.{K, _⊞_, _⊠_};
-ghost use Rattle.series.specs.Shift.{zpow, cut};
+ghost use Rattle.series.specs.Shift.{cut};
 ghost use Rattle.series.specs.Degree.{below};
 ghost use Rattle.series.specs.Value.{value, odd};
 ghost use Rattle.series.specs.Array.{bytes};
-ghost use Rattle.polynomial.specs.Polynomial.{poly, row as Row};
+ghost use Rattle.polynomial.specs.Polynomial.{poly};
 ghost use Rattle.settle.specs.Locator.{W};
 ghost use Rattle.candidate.specs.Walk.{terms, Rows};
 ghost use Rattle.candidate.specs.Located.{Walked};
@@ -21,7 +20,6 @@ use field::Exponent;
 use field::Gf;
 use kernel::wide;
 use polynomial::COEFFICIENTS;
-use polynomial::SYNDROMES;
 
 // Coefficients of a locator of 24 changes.
 pub const TERMS: usize = 25;
@@ -32,14 +30,14 @@ pub struct Located {
     pub pattern: [Gf; 255],
 }
 
-// Row i multiplies by W i. The first k stand.
+// Row i multiplies by W i, for i from 1 to k - 1: the term with no z is the same everywhere, and has none.
 fn step_rows(k: usize) -> [[u8; 256]; TERMS]
-    requires { ⌜ k ≤ 25 ⌝ }
+    requires { ⌜ (0 < k) × (k ≤ 25) ⌝ }
     ensures { λ r. ⌜ Rows k r ⌝ }
 {
     let blank = [0u8; 256];
     let mut rows = [blank; TERMS];
-    let mut i: usize = 0;
+    let mut i: usize = 1;
     while i < k {
         let row = kernel::product_row(Exponent(255 - i).power());
         rows[i] = row;
@@ -93,11 +91,11 @@ fn odd_total(at: &[u8], k: usize) -> Gf
 
 // The terms at the next position, and their sum.
 fn advance(rows: &[[u8; 256]; TERMS], at: &mut [u8], k: usize) -> Gf
-    requires { ⌜ (k ≤ 25) × (k ≤ length (now at)) × Rows k (now rows) × below k (bytes (now at)) ⌝ }
+    requires { ⌜ (0 < k) × (k ≤ 25) × (k ≤ length (now at)) × Rows k (now rows) × below k (bytes (now at)) ⌝ }
     ensures { λ r. ⌜ (bytes (now (at .exit)) ≡ terms (W 1) (bytes (now (at .entry)))) × (val r ≡ sum k (bytes (now (at .exit)))) ⌝ }
 {
-    let mut v: u8 = 0;
-    let mut i: usize = 0;
+    let mut v: u8 = at[0];
+    let mut i: usize = 1;
     while i < k {
         let x = rows[i][wide(at[i])];
         at[i] = x;
@@ -157,48 +155,6 @@ fn still_missing(missing: usize, v: Gf) -> usize
         return missing - 1;
     }
     missing
-}
-
-// The locator's coefficient c at z^a times the first 32 syndromes is added: more than the numerator needs, so that many are taken at a time.
-fn add_term(c: Gf, a: usize, row: [Gf; SYNDROMES], to: &mut [u8])
-    requires { ⌜ a + 32 ≤ length (now to) ⌝ }
-    ensures { λ _. ⌜ bytes (now (to .exit)) ≡ bytes (now (to .entry)) ⊞ zpow a ⊠ cut 32 (K (val c) ⊠ Row row) ⌝ }
-{
-    let mut j: usize = 0;
-    while j < 32 {
-        let g = row[j];
-        let q = a + j;
-        to[q] = to[q] ^ kernel::multiply(g.0, c.0);
-        j = j + 1;
-    }
-}
-
-// The first m bytes.
-fn first_bytes(from: &[u8], m: usize) -> [u8; TERMS]
-    requires { ⌜ (m ≤ 25) × (m ≤ length (now from)) ⌝ }
-    ensures { λ r. ⌜ bytes r ≡ cut m (bytes (now (from .entry))) ⌝ }
-{
-    let mut out = [0u8; TERMS];
-    let mut i: usize = 0;
-    while i < m {
-        out[i] = from[i];
-        i = i + 1;
-    }
-    out
-}
-
-// The first m coefficients of the locator times the syndromes: those of the locator's first m terms.
-pub fn numerator(locator: [Gf; COEFFICIENTS], row: [Gf; SYNDROMES], m: usize) -> [u8; TERMS]
-    requires { ⌜ m ≤ 25 ⌝ }
-    ensures { λ r. ⌜ bytes r ≡ cut m (poly locator ⊠ Row row) ⌝ }
-{
-    let mut sum = [0u8; 57];
-    let mut i: usize = 0;
-    while i < m {
-        add_term(locator[i], i, row, &mut sum);
-        i = i + 1;
-    }
-    first_bytes(&sum, m)
 }
 
 // From position 0 on, until no root is missing, or the positions that are left are fewer than the roots that are.

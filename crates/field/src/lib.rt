@@ -1,8 +1,10 @@
 // GF(256), the field of the code: bytes as polynomials over the two-element field, modulo z^8 + z^4 + z^3 + z^2 + 1 (285).
 // The promises speak of the values F and their operations, defined in specs/Definition.antt: `val g` is the value of a `Gf`.
 // A product costs two logarithms and a power, whatever its factors are.
+ghost use Prim.Native.Nat.{ℕ, _<_};
 ghost use mathlib.Core.Path.{_≡_};
-ghost use Rattle.field.specs.Definition.{_⊕_, _⊙_, α, pow, inv, log, isZero, val};
+ghost use lib.ListN.{getD};
+ghost use Rattle.field.specs.Definition.{_⊕_, _⊙_, α, pow, inv, log, of, isZero, val};
 
 // A field value: bit i of the byte is the coefficient of z^i.
 pub struct Gf(pub u8);
@@ -45,6 +47,13 @@ const LOG: [u8; 256] = *b"\x00\x00\x01\x19\x02\x32\x1a\xc6\x03\xdf\x33\xee\x1b\x
     \x6c\xa1\x3b\x52\x29\x9d\x55\xaa\xfb\x60\x86\xb1\xbb\xcc\x3e\x5a\
     \xcb\x59\x5f\xb0\x9c\xa9\xa0\x51\x0b\xf5\x16\xeb\x7a\x75\x2c\xd7\
     \x4f\xae\xd5\xe9\xe6\xe7\xad\xe8\x74\xd6\xf4\xea\xa8\x50\x58\xaf";
+
+// The powers of α, for loops that read many of them.
+pub fn powers() -> [u8; 256]
+    ensures { λ r. ⌜ ((k : ℕ) → k < 255 → of (getD r k 0) ≡ pow α k) ⌝ }
+{
+    POWER
+}
 
 impl Gf {
     pub const ZERO: Gf = Gf(0);

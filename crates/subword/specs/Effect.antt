@@ -1,17 +1,20 @@
 -- What a pattern does: how many symbols it changes, and its syndromes, change by change; and its test.
 --
+--   Powers l      l holds the powers of α, from the power 0 up to 254
 --   same? m f g   whether f and g agree below m
 --
--- Proved: the syndromes of a change y at position p are X p times y, and each next one X p times the one before (change-is, next-power); a loop over
--- the positions goes on by effect-more and count-more; what the test of a pattern looks at (test-long, test-short).
-use Prim.Native.Nat.{ℕ, suc, _+_, _*_, _≤_, _<_}
+-- Proved: the syndromes of a change y at position p are X p times y, and each next one X p times the one before (change-is); the exponents of these
+-- (first-exponent, next-exponent); a loop over the positions goes on by effect-more and count-more; what the test of a pattern looks at (test-long,
+-- test-short).
+use Prim.Native.Nat.{ℕ, suc, _+_, _*_, _≤_, _<_, _%_}
 use mathlib.Core.Path.{_≡_, sym, ap, ap₂, _∙_, fun-ext}
-use mathlib.Core.Logic.{ite}
+use mathlib.Core.Logic.{_≢_, ite}
 use mathlib.Core.Bool.{false}
+use mathlib.Core.List.{List}
 use native.Mathlib.Numerals.{add-one}
 use native.Mathlib.Omega.{arith}
-use lib.ListN.{replicate}
-use Rattle.field.specs.Field.{F, 𝟎, _⊙_, _≟_, of, of-zero, ⊙-ring, pow, pow-suc}
+use lib.ListN.{getD, replicate}
+use Rattle.field.specs.Field.{F, 𝟎, α, _⊙_, _≟_, of, of-zero, log, ⊙-ring, ⊙-comm, pow, pow-suc, pow-add, pow-log, power-mod}
 use Rattle.series.specs.Series.{Series, O, K, _⊞_, _⊠_, ⊠-ring, O-at, ⊞-at, K-zero, K-⊠-at}
 use Rattle.series.specs.Shift.{cut, cut-low, cut-none, cut-unique, cut-⊞, cut-K-⊠}
 use Rattle.series.specs.Value.{value-none, value-last}
@@ -25,8 +28,17 @@ use Rattle.settle.specs.Locator.{X, lead-is, root-power}
 
 -- ---- one change
 
-pub next-power : (x a : F) (j : ℕ) → x ⊙ (a ⊙ pow x j) ≡ a ⊙ pow x (j + 1)
-next-power x a j = rw (add-one, pow-suc) (simp ⊙-ring)
+abbrev pub Powers : List ℕ → Type 0
+Powers l = (k : ℕ) → k < 255 → of (getD l k 0) ≡ pow α k
+
+sum-exponent : (e p r : ℕ) (a : F) → r ≡ (e + p) % 255 → pow α e ≡ a → pow α r ≡ X p ⊙ a
+sum-exponent e p r a is h = ap (pow α) is ∙ power-mod (e + p) ∙ pow-add α e p ∙ ⊙-comm _ _ ∙ ap (λ t. X p ⊙ t) h
+
+pub first-exponent : (e p r : ℕ) (y : F) → y ≢ 𝟎 → e ≡ log y → r ≡ (e + p) % 255 → pow α r ≡ X p ⊙ y
+first-exponent e p r y h l is = sum-exponent e p r y is (ap (pow α) l ∙ pow-log y h)
+
+pub next-exponent : (e p r j : ℕ) (a : F) → r ≡ (e + p) % 255 → pow α e ≡ a ⊙ pow (X p) j → pow α r ≡ a ⊙ pow (X p) (j + 1)
+next-exponent e p r j a is h = sum-exponent e p r _ is h ∙ rw (add-one, pow-suc) (simp ⊙-ring)
 
 pub change-is : (m p : ℕ) (y : F) → K (X p ⊙ y) ⊠ cut m (pow (X p)) ≡ K y ⊠ cut m (λ j. pow (root j) p)
 change-is m p y = sym (cut-K-⊠ m _ _) ∙ ap (cut m) (fun-ext term) ∙ cut-K-⊠ m _ _

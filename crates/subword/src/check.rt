@@ -1,7 +1,7 @@
 // The test that every pattern is put to, whoever puts it forward.
-ghost use Prim.Native.Nat.{suc, _≤_, _<_};
+ghost use Prim.Native.Nat.{suc, _+_, _≤_, _<_, _%_};
 ghost use mathlib.Core.Path.{_≡_};
-ghost use mathlib.Core.Logic.{ite};
+ghost use mathlib.Core.Logic.{_≢_, ite};
 ghost use lib.ListN.{length};
 ghost use Rattle.field.specs.Field.{𝟎, _≟_, pow, val};
 ghost use Rattle.series.specs.Series.{K, _⊞_, _⊠_};
@@ -12,10 +12,8 @@ ghost use Rattle.series.specs.Word.{weight};
 ghost use Rattle.polynomial.specs.Polynomial.{row as Row};
 ghost use Rattle.reed_solomon.specs.Definition.{root, syndrome};
 ghost use Rattle.settle.specs.Definition.{explains?};
-ghost use Rattle.subword.specs.Effect.{same?};
-use field::Exponent;
+ghost use Rattle.subword.specs.Effect.{Powers, same?};
 use field::Gf;
-use kernel::wide;
 use polynomial::SYNDROMES;
 
 // Whether a pattern explains a row of syndromes, and how many symbols it changes.
@@ -30,33 +28,44 @@ struct Effect {
     syndromes: [u8; SYNDROMES],
 }
 
-// The first m syndromes of a change y at position p are added.
-fn add_change(p: usize, y: Gf, m: usize, to: &mut [u8])
-    requires { ⌜ m ≤ length (now to) ⌝ }
+// The sum of two exponents, modulo 255.
+fn exponent(e: usize, p: usize) -> usize
+    requires { ⌜ (e < 255) × (p < 255) ⌝ }
+    ensures { λ r. ⌜ r ≡ (e + p) % 255 ⌝ }
+{
+    let s = e + p;
+    if s < 255 {
+        return s;
+    }
+    s - 255
+}
+
+// The first m syndromes of a change y, which is not zero, at position p are added: each is a power of α, and its exponent p more than the one before,
+// so that no lookup waits for another.
+fn add_change(power: &[u8; 256], p: usize, y: Gf, m: usize, to: &mut [u8])
+    requires { ⌜ Powers (now power) × (p < 255) × (val y ≢ 𝟎) × (m ≤ length (now to)) ⌝ }
     ensures { λ _. ⌜ bytes (now (to .exit)) ≡ bytes (now (to .entry)) ⊞ K (val y) ⊠ cut m (λ j. pow (root j) p) ⌝ }
 {
-    let x = Exponent(p).power();
-    let row = kernel::product_row(x);
-    let first = x.product(y);
-    let mut v = first.0;
+    let log = y.log();
+    let mut e = exponent(log.0, p);
     let mut j: usize = 0;
     while j < m {
-        to[j] = to[j] ^ v;
-        v = row[wide(v)];
+        to[j] = to[j] ^ power[e];
+        e = exponent(e, p);
         j = j + 1;
     }
 }
 
 // The same, if it is a change, with the count of changes.
-fn count_change(count: usize, p: usize, y: Gf, m: usize, to: &mut [u8]) -> usize
-    requires { ⌜ (count < 255) × (m ≤ length (now to)) ⌝ }
+fn count_change(power: &[u8; 256], count: usize, p: usize, y: Gf, m: usize, to: &mut [u8]) -> usize
+    requires { ⌜ Powers (now power) × (count < 255) × (p < 255) × (m ≤ length (now to)) ⌝ }
     ensures { λ r. ⌜ (r ≡ ite (val y ≟ 𝟎) count (suc count)) ×
         (bytes (now (to .exit)) ≡ bytes (now (to .entry)) ⊞ K (val y) ⊠ cut m (λ j. pow (root j) p)) ⌝ }
 {
     if y.is_zero() {
         return count;
     }
-    add_change(p, y, m, to);
+    add_change(power, p, y, m, to);
     count + 1
 }
 
@@ -65,11 +74,12 @@ fn effect_of(pattern: [Gf; 255], n: usize, m: usize) -> Effect
     requires { ⌜ (n ≤ 255) × (m ≤ 48) ⌝ }
     ensures { λ r. ⌜ (r .count ≡ weight n (values pattern)) × (bytes (r .syndromes) ≡ cut m (syndrome n (values pattern))) ⌝ }
 {
+    let power = field::powers();
     let mut syndromes = [0u8; SYNDROMES];
     let mut count: usize = 0;
     let mut p: usize = 0;
     while p < n {
-        count = count_change(count, p, pattern[p], m, &mut syndromes);
+        count = count_change(&power, count, p, pattern[p], m, &mut syndromes);
         p = p + 1;
     }
     Effect {

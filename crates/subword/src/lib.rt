@@ -48,7 +48,7 @@ pub fn settle(
     if t < length {
         return nothing();
     }
-    let numerator = candidate::numerator(locator, row, length);
+    let numerator = numerator::numerator(locator, row, length);
     let located = candidate::locate(locator, &numerator[..length], length, n);
     if !located.whole {
         return nothing();

@@ -1,5 +1,5 @@
--- The first i rows stand.
-use Prim.Native.Nat.{_-_, _≤_}
+-- The rows from 1 to i - 1 stand.
+use Prim.Native.Nat.{_-_, _≤_, _<_}
 use mathlib.Core.Path.{_≡_, sym, _∙_, subst}
 use native.Mathlib.Omega.{arith}
 use lib.ListN.{length, length-set}
@@ -10,13 +10,13 @@ use Rattle.candidate.proofs.step_rows.Statement.{statement}
 use Rattle.candidate.proofs.step_rows.Tie as tie
 
 abbrev Inv-loop : tie.InvT-loop
-Inv-loop k rows₀ i₀ rows i = (i ≤ k) × (length rows ≡ 25) × Rows i rows
+Inv-loop k rows₀ i₀ rows i = (0 < i) × (i ≤ k) × (length rows ≡ 25) × Rows i rows
 
 abbrev μ-loop : tie.MeasureT-loop
 μ-loop k rows₀ i₀ rows i = k - i
 
 loop-holds : tie.Need-loop-holds Inv-loop μ-loop
-loop-holds c = (search needs, search needs, rows-none _)
+loop-holds c = (search needs, search needs, search needs, rows-none _)
 
 sub-rows : tie.Need-sub-rows Inv-loop μ-loop
 sub-rows c = search needs
@@ -43,15 +43,16 @@ loop-again : tie.Need-loop-again Inv-loop μ-loop
 loop-again c =
     let now = c .before .before .before .loop in (
       omega arith,
-      length-set (now .rows) _ _ ∙ now .inv .1,
-      rows-more _ _ (now .inv .2) (omega arith) (search needs) (c .product-row .ensures) (c .before .power .ensures ∙ sym (W-is (now .i) (omega arith))),
+      omega arith,
+      length-set (now .rows) _ _ ∙ now .inv .2,
+      rows-more _ _ (now .inv .3) (omega arith) (search needs) (c .product-row .ensures) (c .before .power .ensures ∙ sym (W-is (now .i) (omega arith))),
     )
 
 returns : tie.Need-returns Inv-loop μ-loop
 returns c =
     let end = c .before .loop in
     let e : end .i ≡ c .before .before .args .k = omega arith in
-    subst (λ i. Rows i (end .rows)) e (end .inv .2)
+    subst (λ i. Rows i (end .rows)) e (end .inv .3)
 
 pub step-rows-spec : {M : Type 1} → statement M
 step-rows-spec =

@@ -65,7 +65,7 @@ slice-aggregate-advance c = search needs
 advance-requires : tie.Need-advance-requires Inv-loop μ-loop
 advance-requires c κs =
     let now = c .before .before .before .before .before .before .before .loop in
-    (omega arith, omega arith, c .before .before .before .before .before .before .before .before .before .before .before .step-rows .ensures, walking-below (now .inv .2))
+    (omega arith, omega arith, omega arith, c .before .before .before .before .before .before .before .before .before .before .before .step-rows .ensures, walking-below (now .inv .2))
 
 add-p : tie.Need-add-p Inv-loop μ-loop
 add-p c = search needs

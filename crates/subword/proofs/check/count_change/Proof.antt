@@ -18,7 +18,10 @@ returns c =
     (sym (if-pos (y ≟ 𝟎) z _ _), no-change _ _ y z)
 
 add-change-requires : tie.Need-add-change-requires
-add-change-requires c κs = search needs
+add-change-requires c κs =
+    let arm = c .before in
+    let given = arm .before .before .before in
+    (given .pre .0, given .pre .2, isZero-false _ (sym (arm .before .is-zero .ensures) ∙ arm .if1 .left), search needs)
 
 add-result : tie.Need-add-result
 add-result c = search needs

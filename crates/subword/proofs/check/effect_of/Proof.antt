@@ -13,10 +13,13 @@ use Rattle.subword.proofs.check.effect_of.Statement.{statement}
 use Rattle.subword.proofs.check.effect_of.Tie as tie
 
 abbrev Inv-loop : tie.InvT-loop
-Inv-loop n m pattern syndromes₀ count₀ p₀ syndromes count p = (p ≤ n) × (length syndromes ≡ 48) × (count ≡ weight p (values pattern)) × (bytes syndromes ≡ cut m (syndrome p (values pattern)))
+Inv-loop n m pattern power syndromes₀ count₀ p₀ syndromes count p = (p ≤ n) × (length syndromes ≡ 48) × (count ≡ weight p (values pattern)) × (bytes syndromes ≡ cut m (syndrome p (values pattern)))
 
 abbrev μ-loop : tie.MeasureT-loop
-μ-loop n m pattern syndromes₀ count₀ p₀ syndromes count p = n - p
+μ-loop n m pattern power syndromes₀ count₀ p₀ syndromes count p = n - p
+
+powers-requires : tie.Need-powers-requires Inv-loop μ-loop
+powers-requires c κs = search needs
 
 loop-holds : tie.Need-loop-holds Inv-loop μ-loop
 loop-holds c = (search needs, search needs, sym (weight-none _), effect-none _ _)
@@ -29,8 +32,9 @@ slice-aggregate-count-change c = search needs
 
 count-change-requires : tie.Need-count-change-requires Inv-loop μ-loop
 count-change-requires c κs =
-    let now = c .before .before .before .loop in
-    (omega (arith, weight-le (now .p) (values (c .before .before .before .before .args .t1)), now .inv .2), omega arith)
+    let start = c .before .before .before .before .before in
+    let now = c .before .before .before .before .loop in
+    (start .powers .ensures, omega (arith, weight-le (now .p) (values (start .before .args .t1)), now .inv .2), omega arith, omega arith)
 
 add-p : tie.Need-add-p Inv-loop μ-loop
 add-p c = search needs
@@ -40,7 +44,7 @@ loop-less c = search needs
 
 loop-again : tie.Need-loop-again Inv-loop μ-loop
 loop-again c =
-    let now = c .before .before .before .before .before .loop in
+    let now = c .before .before .before .before .before .before .loop in
     let changed = c .before .count-change in (
       omega arith,
       omega (arith, c .syndromes2 .given),
@@ -51,7 +55,7 @@ loop-again c =
 returns : tie.Need-returns Inv-loop μ-loop
 returns c =
     let end = c .before .loop in
-    let e : end .p ≡ c .before .before .args .n = omega arith in
+    let e : end .p ≡ c .before .before .before .args .n = omega arith in
     (rw e at (end .inv .2), rw e at (end .inv .3))
 
 pub effect-of-spec : {M : Type 1} → statement M
@@ -60,6 +64,7 @@ effect-of-spec =
     (tie.spec
     Inv-loop
     μ-loop
+    powers-requires
     loop-holds
     array-copy-out-count-change
     slice-aggregate-count-change

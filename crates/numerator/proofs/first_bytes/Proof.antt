@@ -7,8 +7,8 @@ use Rattle.field.specs.Field.{of, of-zero}
 use Rattle.series.specs.Shift.{cut}
 use Rattle.series.specs.Array.{bytes, read-at, read-zeros, read-store}
 use borrow.Author.Needs.{needs}
-use Rattle.candidate.proofs.first_bytes.Statement.{statement}
-use Rattle.candidate.proofs.first_bytes.Tie as tie
+use Rattle.numerator.proofs.first_bytes.Statement.{statement}
+use Rattle.numerator.proofs.first_bytes.Tie as tie
 
 abbrev Inv-loop : tie.InvT-loop
 Inv-loop from m out₀ i₀ out i = (i ≤ m) × (length out ≡ 25) × (bytes out ≡ cut i (bytes from))

@@ -7,10 +7,10 @@ use Rattle.series.specs.Series.{_⊠_}
 use Rattle.series.specs.Shift.{cut}
 use Rattle.series.specs.Array.{bytes}
 use Rattle.polynomial.specs.Polynomial.{poly, row as Row, poly-at}
-use Rattle.candidate.specs.Numerator.{product-none, product-more, product-first}
+use Rattle.numerator.specs.Product.{product-none, product-more, product-first}
 use borrow.Author.Needs.{needs}
-use Rattle.candidate.proofs.numerator.Statement.{statement}
-use Rattle.candidate.proofs.numerator.Tie as tie
+use Rattle.numerator.proofs.numerator.Statement.{statement}
+use Rattle.numerator.proofs.numerator.Tie as tie
 
 abbrev Inv-loop : tie.InvT-loop
 Inv-loop row m locator sum₀ i₀ sum i = (i ≤ m) × (length sum ≡ 57) × (bytes sum ≡ cut i (poly locator) ⊠ cut 32 (Row row))

@@ -10,8 +10,8 @@ use Rattle.series.specs.Array.{bytes}
 use Rattle.polynomial.specs.Polynomial.{row as Row, row-at}
 use Rattle.kernel.specs.Store.{bytes-xor, append-none, add-more}
 use borrow.Author.Needs.{needs}
-use Rattle.candidate.proofs.add_term.Statement.{statement}
-use Rattle.candidate.proofs.add_term.Tie as tie
+use Rattle.numerator.proofs.add_term.Statement.{statement}
+use Rattle.numerator.proofs.add_term.Tie as tie
 
 abbrev Inv-loop : tie.InvT-loop
 Inv-loop c a to₀ row j₀ to j = (j ≤ 32) × (length to ≡ length to₀) × (bytes to ≡ bytes to₀ ⊞ zpow a ⊠ cut j (K (val c) ⊠ Row row))

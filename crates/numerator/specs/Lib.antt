@@ -1,0 +1,2 @@
+-- Product holds what `numerator` goes by.
+pub mod Product
