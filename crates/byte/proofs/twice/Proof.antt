@@ -1,8 +1,8 @@
 -- The law of doubling, for a byte.
 use Rattle.field.specs.Field.{of-twice}
 use borrow.Author.Needs.{needs}
-use Rattle.kernel.proofs.byte.twice.Statement.{statement}
-use Rattle.kernel.proofs.byte.twice.Tie as tie
+use Rattle.byte.proofs.twice.Statement.{statement}
+use Rattle.byte.proofs.twice.Tie as tie
 
 mul-result : tie.Need-mul-result
 mul-result c = search needs

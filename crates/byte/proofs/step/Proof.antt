@@ -2,10 +2,10 @@
 use Prim.Native.Nat.{_/_}
 use mathlib.Core.Path.{ap₂, _∙_}
 use Rattle.field.specs.Field.{_⊕_, of-xor}
-use Rattle.kernel.specs.Multiply.{pick-lt, of-pick}
+use Rattle.byte.specs.Multiply.{pick-lt, of-pick}
 use borrow.Author.Needs.{needs}
-use Rattle.kernel.proofs.byte.step.Statement.{statement}
-use Rattle.kernel.proofs.byte.step.Tie as tie
+use Rattle.byte.proofs.step.Statement.{statement}
+use Rattle.byte.proofs.step.Tie as tie
 
 twice-requires : tie.Need-twice-requires
 twice-requires c κs = search needs

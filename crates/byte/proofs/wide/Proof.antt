@@ -1,7 +1,7 @@
 -- A byte is below 256.
 use borrow.Author.Needs.{needs}
-use Rattle.kernel.proofs.byte.wide.Statement.{statement}
-use Rattle.kernel.proofs.byte.wide.Tie as tie
+use Rattle.byte.proofs.wide.Statement.{statement}
+use Rattle.byte.proofs.wide.Tie as tie
 
 returns : tie.Need-returns
 returns c = search needs

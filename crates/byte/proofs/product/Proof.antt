@@ -2,8 +2,8 @@
 use mathlib.Core.Path.{sym, ap₂, _∙_}
 use Rattle.field.specs.Field.{_⊙_, val-of}
 use borrow.Author.Needs.{needs}
-use Rattle.kernel.proofs.byte.product.Statement.{statement}
-use Rattle.kernel.proofs.byte.product.Tie as tie
+use Rattle.byte.proofs.product.Statement.{statement}
+use Rattle.byte.proofs.product.Tie as tie
 
 multiply-requires : tie.Need-multiply-requires
 multiply-requires c κs = search needs

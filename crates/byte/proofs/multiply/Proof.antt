@@ -3,10 +3,10 @@ use Prim.Native.Nat.{_/_, _<_}
 use mathlib.Core.Path.{_∙_}
 use native.Mathlib.Omega.{arith}
 use Rattle.field.specs.Field.{⊙-comm}
-use Rattle.kernel.specs.Multiply.{Times, times-first, times-more}
+use Rattle.byte.specs.Multiply.{Times, times-first, times-more}
 use borrow.Author.Needs.{needs}
-use Rattle.kernel.proofs.byte.multiply.Statement.{statement}
-use Rattle.kernel.proofs.byte.multiply.Tie as tie
+use Rattle.byte.proofs.multiply.Statement.{statement}
+use Rattle.byte.proofs.multiply.Tie as tie
 
 step-requires : tie.Need-step-requires
 step-requires c κs = search needs
