@@ -1,4 +1,3 @@
 pub mod Store
 pub mod Power
 pub mod Row
-pub mod Multiply

@@ -1,6 +1,5 @@
-// A product with no table, for loops; hot loops over lent bytes and lent rows of products.
+// Hot loops over lent bytes and lent rows of products; the functions of single bytes are passed on.
 // The promises are equations of series: `bytes l` is the list l as the series of its entries, then zeros.
-mod byte;
 mod row;
 
 pub use byte::multiply;

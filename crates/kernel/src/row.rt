@@ -9,7 +9,6 @@ ghost use Rattle.series.specs.Degree.{below};
 ghost use Rattle.series.specs.Value.{value};
 ghost use Rattle.series.specs.Array.{bytes};
 ghost use Rattle.kernel.specs.Row.{products, factor, Row};
-use crate::byte;
 use field::Gf;
 
 // The entries from w to 2w - 1: those below w, each with top added.
