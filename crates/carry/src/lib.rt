@@ -54,7 +54,7 @@ fn carried(p: Profile, i: usize, block: &[u8]) -> [u8; POSITIONS]
     let mut k = i + 1;
     while k < m {
         let c = ratio(i, k);
-        code::add_subword(p, c, block, k, &mut word);
+        nested::add_subword(p, c, block, k, &mut word);
         k = k + 1;
     }
     word
