@@ -172,7 +172,10 @@ fn read_block(p: Profile, i: u16, block: &[u8], out: &mut [u8], line: &mut [u8; 
     requires { ⌜ Fits p (now block) × (length (now out) ≡ length (now block)) ⌝ }
     ensures { λ n. ⌜ Says (BlockLine p i (now (block .entry))) n (now (line .exit)) ⌝ }
 {
-    let r = reader::read(p, Form::Plain, block, out);
+    let mut t = generator::room();
+    let mut u = generator::room();
+    codeword::tables(p, &mut t, &mut u);
+    let r = reader::read(p, Form::Plain, &t, &u, block, out);
     let a = r.answer;
     let report = r.report;
     block_line(i, a, report.last, report.changed, line)

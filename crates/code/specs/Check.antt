@@ -1,18 +1,16 @@
--- Blocks of bytes, tables of syndromes, and the words that the codeword check walks.
+-- Blocks of bytes, tables of syndromes, and words that stand in parts of arrays.
 --
 --   Fits p b         b is a block of the size that the valid profile p says
+--   Subwords p s     every subword of the block s is in the code of t0
 --   table t          a table of syndromes: row i as a series, zero where nothing is stored
 --   rows r f         the rows f 0, .., f (r - 1), then zeros
 --   received p s k   the syndromes j < k of the subwords of the block s
---   sums p s w       the m words that a codeword has to be checked for: the nested words, then the subwords from v on
---   Vanish p s w     the syndromes below `checks p w` of word w are zero
+--   sums p s w       m words that tell a codeword: the nested words, then the subwords from v on
 --
--- Proved: a block of a valid profile is a codeword exactly if all m words vanish (codeword-sums, sums-codeword); a word's syndromes are those of its remainder
--- (word-syndrome, zeros-vanish). So the check may end at the first that is not zero (check-passes, check-fails).
+-- Proved: a block of a valid profile is a codeword if the syndromes below `checks p w` of its m words are zero (sums-codeword).
 use Prim.Native.Nat.{ℕ, zero, suc, _+_, _*_, _≤_, _<_}
 use mathlib.Core.Path.{_≡_, sym, ap, _∙_, fun-ext}
-use mathlib.Core.Logic.{_≢_}
-use mathlib.Core.Bool.{true, false, cond}
+use mathlib.Core.Bool.{cond}
 use mathlib.Core.List.{List, []}
 use native.Mathlib.Decide.{decLt, ℕ-discrete}
 use native.Mathlib.Nat.{suc-mul, mul-le-mul-right}
@@ -23,28 +21,29 @@ use lib.Seq.{getD-set-same, getD-set-other, length-take-le}
 use borrow.Author.Tests.{lt-ltb, le-ltb}
 use Rattle.field.specs.declared.Gf.{Gf}
 use Rattle.field.specs.Field.{𝟎, of, val, val-zero}
-use Rattle.series.specs.Series.{Series, O, O-at}
+use Rattle.series.specs.Series.{Series, O}
 use Rattle.series.specs.Shift.{cut, cut-none, cut-low}
 use Rattle.series.specs.Degree.{below-O, below-cut-eq}
-use Rattle.series.specs.Decide.{holds, holds-yes, holds-no}
 use Rattle.series.specs.Array.{bytes, read-zeros}
 use Rattle.series.specs.Part.{read-take}
-use Rattle.series.specs.Value.{value-more, value-zero}
 use Rattle.polynomial.specs.Polynomial.{row, row-zeros}
 use Rattle.profile.specs.declared.Profile.{Profile}
 use Rattle.profile.specs.Definition.{checks, block-size}
-use Rattle.profile.specs.Valid.{Valid, checks-is, checks-high, checks-most}
-use Rattle.reed_solomon.specs.Definition.{root, syndrome}
-use Rattle.reed_solomon.specs.Systematic.{syndrome-is, syndrome-cong}
-use Rattle.reed_solomon.specs.Residue.{residue, below-residue, residue-cong, residue-first}
+use Rattle.profile.specs.Valid.{Valid, checks-is, checks-high}
+use Rattle.reed_solomon.specs.Definition.{syndrome, InCode}
+use Rattle.reed_solomon.specs.Systematic.{syndrome-cong}
+use Rattle.reed_solomon.specs.Residue.{residue, residue-cong}
 use Rattle.code.specs.Definition.{subword, nested, Codeword}
-use Rattle.code.specs.Encoding.{codeword?}
 use Rattle.code.specs.Triangle.{checked-triangle, triangle-codeword}
 use Rattle.code.specs.Combined.{subword-part}
 
 pub record Fits (p : Profile) (b : List ℕ) : Type 0 where
   pub valid : Valid p
   pub size : length b ≡ block-size p
+
+-- "every strip is in the code of strength t0"
+abbrev pub Subwords : Profile → Series → Type 0
+Subwords p s = (i : ℕ) → i < p .subwords → InCode (p .length) (p .t0) (subword (p .length) s i)
 
 -- subword i lies inside the block, and a block is small
 pub inside : (p : Profile) (b : List ℕ) (i : ℕ) → Fits p b → i < p .subwords → (i * p .length + p .length ≤ length b) × (length b ≤ 2040)
@@ -88,58 +87,24 @@ rows-more t i r f h e q = fun-ext (λ a. go a (ℕ-discrete a i) (decLt a i))
     go a (no s) (no l) =
         ap row (getD-set-other t i a r [] s) ∙ ap (λ (g : ℕ → Series). g a) e ∙ rw (le-ltb a i (omega arith), le-ltb a (i + 1) (omega arith))
 
--- ---- the codeword check
+-- ---- m words
 
 abbrev pub sums : Profile → Series → ℕ → Series
 sums p s w = cond (ltb w (p .nested)) (nested p s w) (subword (p .length) s w)
 
-abbrev pub Vanish : Profile → Series → ℕ → Type 0
-Vanish p s w = (j : ℕ) → j < checks p w → syndrome (p .length) (sums p s w) j ≡ 𝟎
-
 module _ (p : Profile) (s : Series) where
-  pub sums-low : (w : ℕ) → w < p .nested → sums p s w ≡ nested p s w
+  sums-low : (w : ℕ) → w < p .nested → sums p s w ≡ nested p s w
   sums-low w h = rw (lt-ltb w (p .nested) h)
 
-  pub sums-high : (w : ℕ) → p .nested ≤ w → sums p s w ≡ subword (p .length) s w
+  sums-high : (w : ℕ) → p .nested ≤ w → sums p s w ≡ subword (p .length) s w
   sums-high w h = rw (le-ltb w (p .nested) h)
 
-  pub codeword-sums : Codeword p s → (w : ℕ) → w < p .subwords → Vanish p s w
-  codeword-sums c w h j q = go (decLt w (p .nested))
-    where
-      go : Dec (w < p .nested) → syndrome (p .length) (sums p s w) j ≡ 𝟎
-      go (yes l) = rw (sums-low w l) (c .nested-words w l j (omega (arith, checks-is p w)))
-      go (no l) = rw (sums-high w (omega arith)) (c .subwords w h j (omega (arith, checks-high p w (omega arith))))
-
-  module _ (ok : Valid p) where
-    -- the subwords below v follow from the others and the nested words: the triangular form
-    pub sums-codeword : ((w : ℕ) → w < p .subwords → Vanish p s w) → Codeword p s
-    sums-codeword h =
-        triangle-codeword p s ok
-        (checked-triangle p s ok (λ i l u j q. rw (sums-high i l) at (h i u j (omega (arith, checks-high p i l))))
-        (λ l u j q. rw (sums-low l u) at (h l (omega arith) j (omega (arith, checks-is p l)))))
-
-    -- word w by its remainder, which the array r holds
-    module _ (w k : ℕ) (r : List ℕ) (count : k ≡ checks p w) (is : bytes r ≡ residue 0 (p .length) k (sums p s w)) where
-      small : k < 255
-      small = omega (arith, count, checks-most p ok w)
-
-      -- a syndrome of the remainder is the word's
-      pub word-syndrome : (j : ℕ) → j < k → k ≤ length r → syndrome (length r) (bytes r) j ≡ syndrome (p .length) (sums p s w) j
-      word-syndrome j h long =
-          ap (λ (f : Series). syndrome (length r) f j) is
-          ∙ syndrome-is (length r) _ j
-          ∙ value-more k (length r) _ (root j) (below-residue 0 (p .length) k (sums p s w)) long
-          ∙ residue-first (p .length) k (sums p s w) small j h
-
-      pub zeros-vanish : k ≤ length r → ((j : ℕ) → j < k → syndrome (length r) (bytes r) j ≡ 𝟎) → Vanish p s w
-      zeros-vanish long z j h = sym (word-syndrome j (omega (arith, count)) long) ∙ z j (omega (arith, count))
-
-      pub check-fails : (j : ℕ) → w < p .subwords → j < k → k ≤ length r → syndrome (length r) (bytes r) j ≢ 𝟎 → false ≡ holds (codeword? p s)
-      check-fails j h l long n =
-          sym (holds-no (codeword? p s) (λ c. n (word-syndrome j l long ∙ codeword-sums c w h j (omega (arith, count)))))
-
-    pub check-passes : ((w : ℕ) → w < p .subwords → Vanish p s w) → true ≡ holds (codeword? p s)
-    check-passes h = sym (holds-yes (codeword? p s) (sums-codeword h))
+  -- the subwords below v follow from the others and the nested words: the triangular form
+  pub sums-codeword : Valid p → ((w : ℕ) → w < p .subwords → (j : ℕ) → j < checks p w → syndrome (p .length) (sums p s w) j ≡ 𝟎) → Codeword p s
+  sums-codeword ok h =
+      triangle-codeword p s ok
+      (checked-triangle p s ok (λ i l u j q. rw (sums-high i l) at (h i u j (omega (arith, checks-high p i l))))
+      (λ l u j q. rw (sums-low l u) at (h l (omega arith) j (omega (arith, checks-is p l)))))
 
 -- ---- a word that stands in the first n entries of an array
 
@@ -151,10 +116,10 @@ pub prefix-syndrome : (n : ℕ) (l : List ℕ) (g : Series) (j : ℕ) → n ≤ 
 prefix-syndrome n l g j h e =
     ap (λ k. syndrome k (bytes (take n l)) j) (length-take-le n l h) ∙ syndrome-cong n _ g (prefix-at n l g e) j
 
-pub prefix-residue : (n k : ℕ) (l : List ℕ) (g : Series) → n ≤ length l → bytes l ≡ cut n g
-    → residue 0 (length (take n l)) k (bytes (take n l)) ≡ residue 0 n k g
-prefix-residue n k l g h e =
-    ap (λ m. residue 0 m k (bytes (take n l))) (length-take-le n l h) ∙ residue-cong 0 n k _ g (prefix-at n l g e)
+pub prefix-residue : (first n k : ℕ) (l : List ℕ) (g : Series) → n ≤ length l → bytes l ≡ cut n g
+    → residue first (length (take n l)) k (bytes (take n l)) ≡ residue first n k g
+prefix-residue first n k l g h e =
+    ap (λ m. residue first m k (bytes (take n l))) (length-take-le n l h) ∙ residue-cong first n k _ g (prefix-at n l g e)
 
 -- ---- a subword as a part of the block, k being the number of its symbols that the code has
 
@@ -172,13 +137,3 @@ pub part-syndrome : (n i k : ℕ) (b : List ℕ) → k ≡ n → i * n + n ≤ l
     → syndrome (length (take k (drop (i * n) b))) (bytes (take k (drop (i * n) b))) ≡ syndrome n (subword n (bytes b) i)
 part-syndrome n i k b e h =
     ap (λ l. syndrome l (bytes (take k (drop (i * n) b)))) (part-length n i k b e h) ∙ fun-ext (syndrome-cong n _ _ (part-at n i k b e h))
-
-pub part-residue : (n i k : ℕ) (b : List ℕ) (r : ℕ) → k ≡ n → i * n + n ≤ length b
-    → residue 0 (length (take k (drop (i * n) b))) r (bytes (take k (drop (i * n) b))) ≡ residue 0 n r (subword n (bytes b) i)
-part-residue n i k b r e h =
-    ap (λ l. residue 0 l r (bytes (take k (drop (i * n) b)))) (part-length n i k b e h) ∙ residue-cong 0 n r _ _ (part-at n i k b e h)
-
--- ---- a remainder of which no syndrome is looked at
-
-pub none-looked : (r : List ℕ) (j : ℕ) → bytes r ≡ O → syndrome (length r) (bytes r) j ≡ 𝟎
-none-looked r j z = ap (λ (f : Series). syndrome (length r) f j) z ∙ syndrome-is (length r) O j ∙ value-zero (length r) O (root j) (λ i _. O-at i)

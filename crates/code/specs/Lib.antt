@@ -6,5 +6,4 @@ pub mod Triangle
 pub mod Right
 pub mod Encoding
 pub mod Combined
-pub mod Horner
 pub mod Check

@@ -1,7 +1,10 @@
 // Reading a block: the questions, then the block with its report, or a refusal. What the promises speak of stands in specs/Definition.antt.
 ghost use mathlib.Core.Path.{_≡_};
 ghost use lib.ListN.{length};
-ghost use Rattle.reader.specs.Definition.{answer-to, block-of, report-of, Tells};
+ghost use Rattle.series.specs.Array.{bytes};
+ghost use Rattle.code.specs.Check.{Fits};
+ghost use Rattle.staged.specs.Definition.{decode as Decode};
+ghost use Rattle.reader.specs.Definition.{concluded, answer-to, block-of, report-of, Tells, Gives};
 ghost use Rattle.decoder.specs.Definition.{asked, questioned, reading};
 use profile::Parsed;
 use profile::Profile;
@@ -32,6 +35,17 @@ fn questions(profile: &[u8], input: usize, output: usize) -> Parsed
     }
 }
 
+// Makes the tables of an accepted profile, and reads a block by them.
+fn read(p: Profile, form: Form, input: &[u8], out: &mut [u8]) -> Reading
+    requires { ⌜ Fits p (now input) × (length (now out) ≡ length (now input)) ⌝ }
+    ensures { λ r. ⌜ Gives form (concluded p (Decode p (bytes (now (input .entry))))) (now (out .entry)) (now (out .exit)) r ⌝ }
+{
+    let mut t = generator::room();
+    let mut u = generator::room();
+    codeword::tables(p, &mut t, &mut u);
+    reader::read(p, form, &t, &u, input, out)
+}
+
 // Reads a block with the solver in the named form, document 01's reader.
 pub fn decode(profile: &[u8], input: &[u8], out: &mut [u8], form: Form) -> Reading
     ensures answer { λ r. ⌜ r .answer ≡ answer-to (reading (now (profile .entry)) (now (input .entry)) (length (now (out .entry)))) ⌝ }
@@ -39,7 +53,7 @@ pub fn decode(profile: &[u8], input: &[u8], out: &mut [u8], form: Form) -> Readi
     ensures report { λ r. ⌜ Tells form (report-of (reading (now (profile .entry)) (now (input .entry)) (length (now (out .entry))))) (r .report) ⌝ }
 {
     match questions(profile, input.len(), out.len()) {
-        Parsed::Accepted(p) => reader::read(p, form, input, out),
+        Parsed::Accepted(p) => read(p, form, input, out),
         Parsed::Refused(q) => reader::refuse(q, form, out),
     }
 }

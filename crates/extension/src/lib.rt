@@ -27,7 +27,7 @@ fn merge(p: Profile, pending: [bool; SUBWORDS], block: &[u8], i: usize) -> [u8; 
     let mut k: usize = 0;
     while k < m {
         let c = lagrange::lagrange(p, pending, i, k);
-        code::add_subword(p, c, block, k, &mut word);
+        nested::add_subword(p, c, block, k, &mut word);
         k = k + 1;
     }
     word

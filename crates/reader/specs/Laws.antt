@@ -1,6 +1,7 @@
 -- From the code to the definition.
 --
--- Proved: a copy goes on byte by byte (copied-more), and may stand for what was copied (fits-same, reached-same); the changed symbols are counted line by
+-- Proved: a copy goes on byte by byte (copied-more), and may stand for what was copied (fits-same, reached-same); where every subword is settled each is
+-- in the code of t0 (reached-subwords); the changed symbols are counted line by
 -- line (changed-none, changed-more); a refusal, a codeword and each end of decoding give what the definition says (gives-refused; gives-kept; gives-unsettled,
 -- gives-foreign, gives-read), and so does a result by another name (gives-as).
 use Prim.Native.Nat.{ℕ, _+_, _<_}
@@ -22,10 +23,11 @@ use Rattle.profile.specs.declared.Answer.the-variants as answer
 use Rattle.profile.specs.Definition.{block-size}
 use Rattle.profile.specs.Valid.{Valid}
 use Rattle.code.specs.Encoding.{codeword?}
-use Rattle.code.specs.Check.{Fits}
+use Rattle.code.specs.Check.{Fits, Subwords}
 use Rattle.solver.specs.declared.Form.{Form}
 use Rattle.staged.specs.Definition.{total, count-of, settled, report, decode}
 use Rattle.staged.specs.Count.{total-cong}
+use Rattle.staged.specs.Foreign.{settled-subwords}
 use Rattle.staged.specs.Clean.{untouched, decode-codeword}
 use Rattle.turn.specs.declared.Line.{Line}
 use Rattle.turn.specs.Definition.{verdict-of}
@@ -50,6 +52,10 @@ fits-same {p} e = subst (Fits p) (sym e)
 
 pub reached-same : {p : Profile} {f : Form} {a b : List ℕ} {z : Series} {e : Ending} → a ≡ b → Reached p f (bytes a) z e → Reached p f (bytes b) z e
 reached-same {p} {f} {z = z} {e = e} same = subst (λ l. Reached p f (bytes l) z e) same
+
+-- where every subword is settled each is in the code of t0
+pub reached-subwords : (p : Profile) (f : Form) (y b : Series) (e : Ending) → Valid p → Reached p f y b e → e .settled ≡ true → Subwords p b
+reached-subwords p f y b e ok r h = let (g, is, block, _) = r .0 h in subst (Subwords p) block (settled-subwords p ok y (e .stage) g is)
 
 -- ---- counts
 

@@ -1,16 +1,20 @@
 // Reading a block of an accepted profile: staged decoding, the block with its report, or a refusal. What the promises speak of stands in specs/Definition.antt.
-ghost use Prim.Native.Nat.{_≤_};
+ghost use Prim.Native.Nat.{_*_, _≤_};
 ghost use mathlib.Core.Path.{_≡_};
+ghost use mathlib.Core.Bool.{true};
 ghost use lib.ListN.{length};
 ghost use Rattle.series.specs.Series.{Series};
 ghost use Rattle.series.specs.Array.{bytes};
-ghost use Rattle.code.specs.Check.{Fits};
+ghost use Rattle.code.specs.Check.{Fits, Subwords, table, received};
+ghost use Rattle.codeword.specs.Definition.{Tables, Further};
 ghost use Rattle.staged.specs.Definition.{decode as Decode, total, count-of};
 ghost use Rattle.staged.specs.Clean.{untouched};
 ghost use Rattle.turn.specs.Definition.{verdict-of};
 ghost use Rattle.stages.specs.View.{says, Reached};
 ghost use Rattle.reader.specs.Definition.{concluded, Tells, Gives};
 use code::SUBWORDS;
+use field::Gf;
+use polynomial::SYNDROMES;
 use profile::Answer;
 use profile::Profile;
 use profile::Refusal;
@@ -104,15 +108,15 @@ fn copy(from: &[u8], to: &mut [u8])
 }
 
 // What is answered where decoding ended: the block goes out if every subword is settled and it is a codeword.
-fn conclude(p: Profile, form: Form, e: Ending, block: &[u8], out: &mut [u8]) -> Reading
-    requires { ⌜ Fits p (now block) × (length (now out) ≡ length (now block)) ⌝ }
+fn conclude(p: Profile, form: Form, u: &[u64], e: Ending, block: &[u8], out: &mut [u8]) -> Reading
+    requires { ⌜ Fits p (now block) × (length (now out) ≡ length (now block)) × Further p (now u) × (e .settled ≡ true → Subwords p (bytes (now block))) ⌝ }
     ensures { λ r. ⌜ ((y : Series) → Reached p form y (bytes (now (block .entry))) e
         → Gives form (concluded p (Decode p y)) (now (out .entry)) (now (out .exit)) r) ⌝ }
 {
     if !e.settled {
         return refuse(Refusal::Unsettled(e.stage), form, out);
     }
-    if !code::is_codeword(p, block) {
+    if !codeword::is_codeword(p, u, block) {
         return refuse(Refusal::NotCodeword, form, out);
     }
     copy(block, out);
@@ -127,22 +131,32 @@ fn conclude(p: Profile, form: Form, e: Ending, block: &[u8], out: &mut [u8]) -> 
     }
 }
 
-// Decodes a copy of the input, made in the block that is lent.
-fn decode_copy(p: Profile, form: Form, input: &[u8], block: &mut [u8], out: &mut [u8]) -> Reading
-    requires { ⌜ Fits p (now input) × (length (now block) ≡ length (now input)) × (length (now out) ≡ length (now input)) ⌝ }
+// Decodes a copy of the input, made in the block that is lent, from its syndromes.
+fn decode_copy(
+    p: Profile,
+    form: Form,
+    u: &[u64],
+    syndromes: [[Gf; SYNDROMES]; SUBWORDS],
+    input: &[u8],
+    block: &mut [u8],
+    out: &mut [u8],
+) -> Reading
+    requires { ⌜ Fits p (now input) × (length (now block) ≡ length (now input)) × (length (now out) ≡ length (now input)) × Further p (now u)
+        × (table syndromes ≡ received p (bytes (now input)) (2 * p .t0)) ⌝ }
     ensures { λ r. ⌜ Gives form (concluded p (Decode p (bytes (now (input .entry))))) (now (out .entry)) (now (out .exit)) r ⌝ }
 {
     copy(input, block);
-    let e = stages::run(p, form, block);
-    conclude(p, form, e, block, out)
+    let e = stages::run(p, form, syndromes, block);
+    conclude(p, form, u, e, block, out)
 }
 
-// Reads a block of an accepted profile. A codeword goes out as it came, and no stage is entered; for any other block room for a copy is made.
-pub fn read(p: Profile, form: Form, input: &[u8], out: &mut [u8]) -> Reading
-    requires { ⌜ Fits p (now input) × (length (now out) ≡ length (now input)) ⌝ }
+// Reads a block of an accepted profile, by its tables. A codeword goes out as it came, and no stage is entered; for any other block room for a copy is made.
+pub fn read(p: Profile, form: Form, t: &[u64], u: &[u64], input: &[u8], out: &mut [u8]) -> Reading
+    requires { ⌜ Fits p (now input) × (length (now out) ≡ length (now input)) × Tables p (now t) (now u) ⌝ }
     ensures { λ r. ⌜ Gives form (concluded p (Decode p (bytes (now (input .entry))))) (now (out .entry)) (now (out .exit)) r ⌝ }
 {
-    if code::is_codeword(p, input) {
+    let syndromes = codeword::syndromes(p, t, input);
+    if codeword::is_clean(p, u, syndromes, input) {
         copy(input, out);
         return Reading {
             answer: Answer::Accepted,
@@ -151,5 +165,5 @@ pub fn read(p: Profile, form: Form, input: &[u8], out: &mut [u8]) -> Reading
     }
     let n = input.len();
     let mut block = room();
-    decode_copy(p, form, input, &mut block[..n], out)
+    decode_copy(p, form, u, syndromes, input, &mut block[..n], out)
 }

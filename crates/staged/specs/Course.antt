@@ -8,7 +8,8 @@
 --   Rejects p y          decoding is over, and the block is then no codeword
 --
 -- Proved: the three ways on after a stage (stages-over, stages-stop, stages-on), which a loop follows; decoding accepts, fails or rejects (course),
--- and the outcome is accepted, failed or foreign exactly if it does so (accepted-course, failed-course, foreign-course).
+-- and the outcome is accepted, failed or foreign exactly if it does so (accepted-course, failed-course, foreign-course); where the stages end with every
+-- subword settled decoding is over (settled-course).
 use Prim.Native.Nat.{ℕ, zero, suc, _+_, _-_, _≤_, _<_}
 use mathlib.Core.Path.{_≡_, refl, sym, ap, ap₂, _∙_}
 use mathlib.Core.Logic.{_↔_}
@@ -103,10 +104,15 @@ pub record Rejects (p : Profile) (y : Series) : Type 0 where
   pub no-code : ¬ Codeword p (after-stage p y last .block)
 
 module _ (p : Profile) (y : Series) where
+  stages-settled : (s : ℕ) → Over p y s → stages p (p .nested) 0 (start p y) ≡ settled s (after-stage p y s)
+  stages-settled s o = stages-entered p y s (o .low) (o .entered) ∙ stages-over p s (before-stage p y s) _ refl (p .nested - s) (o .none-left)
+
+  stages-stopped : (s : ℕ) → Fails p y s → stages p (p .nested) 0 (start p y) ≡ stopped s
+  stages-stopped s f = stages-entered p y s (f .low) (f .entered) ∙ stages-stop p s (before-stage p y s) _ refl (p .nested - s) (f .many)
+
   decode-over : (s : ℕ) → Over p y s → decode p y ≡ judged p (settled s (after-stage p y s))
   unfolding decode
-  decode-over s o =
-      ap (judged p) (stages-entered p y s (o .low) (o .entered) ∙ stages-over p s (before-stage p y s) _ refl (p .nested - s) (o .none-left))
+  decode-over s o = ap (judged p) (stages-settled s o)
 
   accepts : (d : Series) (x : Report) → Accepts p y d x → decode p y ≡ accepted d x
   accepts d x a =
@@ -119,7 +125,7 @@ module _ (p : Profile) (y : Series) where
 
   fails : (s : ℕ) → Fails p y s → decode p y ≡ failed s
   unfolding decode
-  fails s f = ap (judged p) (stages-entered p y s (f .low) (f .entered) ∙ stages-stop p s (before-stage p y s) _ refl (p .nested - s) (f .many))
+  fails s f = ap (judged p) (stages-stopped s f)
 
   -- it is one of the three, whatever was received
   pub data Course : Type 0 where
@@ -150,6 +156,25 @@ module _ (p : Profile) (y : Series) where
 
   pub course : Course
   course = course-from (p .nested) 0 (omega arith) (λ q l. absurd (omega arith))
+
+  -- every subword is settled just where decoding is over
+  pub settled-course : (r : ℕ) (g : Progress) → stages p (p .nested) 0 (start p y) ≡ settled r g → Over p y r × (g ≡ after-stage p y r)
+  settled-course r g e = go course
+    where
+      over : (s : ℕ) → Over p y s → Over p y r × (g ≡ after-stage p y r)
+      over s o =
+          let x : settled s (after-stage p y s) ≡ settled r g = sym (stages-settled s o) ∙ e in
+          let u : s ≡ r = cc in
+          let v : after-stage p y s ≡ g = cc in
+          (rw u at o, sym v ∙ ap (after-stage p y) u)
+
+      go : Course → Over p y r × (g ≡ after-stage p y r)
+      go (accepting c z a) = over (a .last) (a .over)
+      go (failing s f) =
+          let x : stopped s ≡ settled r g = sym (stages-stopped s f) ∙ e in
+          let z : _≡_ {A = ℕ} 0 1 = cc in
+          absurd (omega arith)
+      go (rejecting a) = over (a .last) (a .over)
 
   pub accepted-course : (d : Series) (x : Report) → decode p y ≡ accepted d x ↔ Accepts p y d x
   accepted-course d x = (go course, accepts d x)

@@ -1,7 +1,7 @@
 -- What is wrong with a block that is refused as foreign: its nested words.
 --
--- Proved, for a valid profile: once every subword is settled each is in the code of capability t0 (settled-in-code), so without nested words no block
--- is foreign (never-foreign).
+-- Proved, for a valid profile: once every subword is settled each is in the code of capability t0 (settled-in-code, settled-subwords), so without nested
+-- words no block is foreign (never-foreign).
 use Prim.Native.Nat.{ℕ, zero, suc, _*_, _≤_, _<_}
 use mathlib.Core.Path.{_≡_, sym, ap, _∙_}
 use mathlib.Core.Logic.{_≢_}
@@ -15,10 +15,11 @@ use Rattle.profile.specs.Definition.{capability}
 use Rattle.profile.specs.Valid.{Valid, capability-mono}
 use Rattle.reed_solomon.specs.Definition.{syndrome, InCode}
 use Rattle.code.specs.Definition.{subword}
-use Rattle.staged.specs.Definition.{start, foreign, decode}
+use Rattle.code.specs.Check.{Subwords}
+use Rattle.staged.specs.Definition.{Progress, start, settled, stages, foreign, decode}
 use Rattle.staged.specs.Stage.{stage-row}
 use Rattle.staged.specs.Round.{extend-low}
-use Rattle.staged.specs.Course.{before-stage, after-stage, Over, foreign-course}
+use Rattle.staged.specs.Course.{before-stage, after-stage, Over, settled-course, foreign-course}
 use Rattle.staged.specs.Differences.{syndrome-sum-block}
 use Rattle.staged.specs.Sound.{Settled, sound-after, line-there}
 
@@ -48,6 +49,10 @@ module _ (p : Profile) (ok : Valid p) (y : Series) where
     where
       S : Series → F
       S b = syndrome (p .length) (subword (p .length) b i) j
+
+  -- the same where the stages end
+  pub settled-subwords : (r : ℕ) (g : Progress) → stages p (p .nested) 0 (start p y) ≡ settled r g → Subwords p (g .block)
+  settled-subwords r g e = let (over, is) = settled-course p y r g e in rw is (settled-in-code r over)
 
   pub never-foreign : p .nested ≡ 0 → decode p y ≢ foreign
   never-foreign z e =

@@ -1,13 +1,13 @@
 // Staged decoding of a block that is lent: subwords are corrected in place, stage after stage. What the promises speak of stands in staged's
 // specs/Definition.antt; how the values here show it, in specs/View.antt.
-ghost use Prim.Native.Nat.{_-_, _≤_, _<_};
+ghost use Prim.Native.Nat.{_-_, _*_, _≤_, _<_};
 ghost use mathlib.Core.Path.{_≡_};
 ghost use mathlib.Core.Bool.{_&&_};
 ghost use lib.Dec.{leb};
 ghost use lib.ListN.{length};
 ghost use Rattle.series.specs.Array.{bytes};
 ghost use Rattle.profile.specs.Valid.{Valid};
-ghost use Rattle.code.specs.Check.{Fits};
+ghost use Rattle.code.specs.Check.{Fits, table, received};
 ghost use Rattle.stages.specs.View.{view, waiting, Before, Came, Started, Extended, Reached};
 use code::SUBWORDS;
 use field::Gf;
@@ -102,12 +102,17 @@ pub fn start(form: Form) -> [Line; SUBWORDS]
     [l; SUBWORDS]
 }
 
-// The stages, up to the one after which every subword is settled or too many are not.
-pub fn run(p: Profile, form: Form, block: &mut [u8]) -> Ending
-    requires { ⌜ Fits p (now block) ⌝ }
+// The stages, up to the one after which every subword is settled or too many are not, from the received subwords' syndromes.
+pub fn run(
+    p: Profile,
+    form: Form,
+    syndromes: [[Gf; SYNDROMES]; SUBWORDS],
+    block: &mut [u8],
+) -> Ending
+    requires { ⌜ Fits p (now block) × (table syndromes ≡ received p (bytes (now block)) (2 * p .t0)) ⌝ }
     ensures { λ e. ⌜ Reached p form (bytes (now (block .entry))) (bytes (now (block .exit))) e ⌝ }
 {
-    let mut table = code::syndromes(p, block, 2 * p.capability(0) as usize);
+    let mut table = syndromes;
     let first = stage(p, 0, [true; SUBWORDS], start(form), table, block);
     let mut pending = first.pending;
     let mut lines = first.lines;

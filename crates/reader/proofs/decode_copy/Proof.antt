@@ -1,24 +1,34 @@
 -- The copy is decoded, and stands for the input.
+use Prim.Native.Nat.{_*_}
+use mathlib.Core.Path.{sym, ap, _∙_}
 use native.Mathlib.Omega.{arith}
-use Rattle.reader.specs.Laws.{fits-same, reached-same}
+use Rattle.series.specs.Array.{bytes}
+use Rattle.code.specs.Check.{received}
+use Rattle.reader.specs.Laws.{fits-same, reached-same, reached-subwords}
 use borrow.Author.Needs.{needs}
 use Rattle.reader.proofs.decode_copy.Statement.{statement}
 use Rattle.reader.proofs.decode_copy.Tie as tie
 
 copy-requires : tie.Need-copy-requires
-copy-requires c κs = c .before .before .before .before .pre .1
+copy-requires c κs = c .before .before .before .before .before .pre .1
 
 run-requires : tie.Need-run-requires
 run-requires c κs =
-    let given = c .before .before .before .before .before .before .before .before in
-    fits-same (c .before .before .before .copy .ensures) (given .pre .0)
+    let given = c .before .before .before .before .before .before .before .before .before in
+    let copied = c .before .before .before .copy .ensures in
+    (fits-same copied (given .pre .0), given .pre .4 ∙ ap (λ b. received (given .args .p) (bytes b) (2 * given .args .p .t0)) (sym copied))
 
 conclude-requires : tie.Need-conclude-requires
 conclude-requires c κs =
-    let given = c .before .before .before .before .before .before .before .before .before .before .before .before .before in
+    let given = c .before .before .before .before .before .before .before .before .before .before .before .before .before .before in
     let same = c .before .before .before .block2 .given in
     let first = c .before .before .before .before .before .before .before .block .given in
-    (record { valid = given .pre .0 .valid; size = omega (arith, same, first, given .pre .0 .size, given .pre .1) }, omega (arith, same, first, given .pre .1, given .pre .2))
+    let ok = given .pre .0 .valid in (
+      record { valid = ok; size = omega (arith, same, first, given .pre .0 .size, given .pre .1) },
+      omega (arith, same, first, given .pre .1, given .pre .2),
+      given .pre .3,
+      reached-subwords _ (given .args .form) _ _ _ ok (c .before .before .before .before .run .ensures),
+    )
 
 same-length : tie.Need-same-length
 same-length c = search needs
@@ -27,11 +37,7 @@ same-length-2 : tie.Need-same-length-2
 same-length-2 c = search needs
 
 returns : tie.Need-returns
-returns c =
-    let given = c .before .before .before .before .before .before .before .before .before .before .before .before .before .before .before .before in
-    let run = c .before .before .before .before .before .before .before .run in
-    let copied = c .before .before .before .before .before .before .before .before .before .before .before .copy .ensures in
-    c .before .before .conclude .ensures _ (reached-same copied (run .ensures))
+returns c = c .before .before .conclude .ensures _ (reached-same (c .before .before .before .before .before .before .before .before .before .before .before .copy .ensures) (c .before .before .before .before .before .before .before .run .ensures))
 
 pub decode-copy-spec : {M : Type 1} → statement M
 decode-copy-spec =

@@ -1,14 +1,12 @@
 -- Decoding has gone through stage r, if it had gone through stage 0 before the loop.
-use Prim.Native.Nat.{ℕ, _-_, _*_, _≤_}
-use mathlib.Core.Path.{_≡_, sym, ap, _∙_, subst}
+use Prim.Native.Nat.{ℕ, _-_, _≤_}
+use mathlib.Core.Path.{_≡_, sym, _∙_, subst}
 use native.Mathlib.Omega.{arith}
 use lib.Dec.{eqb}
 use lib.ListN.{length}
 use Rattle.series.specs.Series.{Series}
 use Rattle.series.specs.Array.{bytes}
-use Rattle.profile.specs.Definition.{capability}
-use Rattle.profile.specs.Valid.{capability-mono, capability-most}
-use Rattle.code.specs.Check.{Fits, received}
+use Rattle.code.specs.Check.{Fits}
 use Rattle.solver.specs.declared.Form.{Form}
 use Rattle.stages.specs.View.{Reached}
 use Rattle.stages.specs.Walk.{At, before-first, at-first, follows-yes, at-next, reached}
@@ -24,40 +22,25 @@ Inv-loop p block₀ table₀ pending₀ lines₀ r₀ block table pending lines 
 abbrev μ-loop : tie.MeasureT-loop
 μ-loop p block₀ table₀ pending₀ lines₀ r₀ block table pending lines r = p .nested - r
 
-capability-requires : tie.Need-capability-requires Inv-loop μ-loop
-capability-requires c κs = search needs
-
-cast-syndromes : tie.Need-cast-syndromes Inv-loop μ-loop
-cast-syndromes c = search needs
-
-mul-syndromes : tie.Need-mul-syndromes Inv-loop μ-loop
-mul-syndromes c = search needs
-
-syndromes-requires : tie.Need-syndromes-requires Inv-loop μ-loop
-syndromes-requires c κs =
-    let given = c .before .before .before in
-    let ok = given .pre .valid in
-    (given .pre, omega (arith, c .capability .ensures, capability-most (given .args .p) ok 0 (omega arith)), omega (arith, c .capability .ensures, ok .length .0, capability-mono (given .args .p) ok 0 (given .args .p .nested) (omega arith) (omega arith)))
-
 start-requires : tie.Need-start-requires Inv-loop μ-loop
 start-requires c κs = search needs
 
 stage-requires : tie.Need-stage-requires Inv-loop μ-loop
-stage-requires c κs = let given = c .before .before .before .before .before .before in (given .pre, omega arith)
+stage-requires c κs = let given = c .before .before .before in (given .pre .0, omega arith)
 
 loop-holds : tie.Need-loop-holds Inv-loop μ-loop
 loop-holds c =
-    let given = c .before .before .before .before .before .before .before .before .before .before .before in
+    let given = c .before .before .before .before .before .before .before .before in
     let stage = c .before .before .before .before .stage in
-    (omega arith, record { valid = given .pre .valid; size = omega (arith, c .before .before .before .block .given, given .pre .size) }, stage .ensures .0 .0, stage .ensures .0 .1, λ f y h. h)
+    (omega arith, record { valid = given .pre .0 .valid; size = omega (arith, c .before .before .before .block .given, given .pre .0 .size) }, stage .ensures .0 .0, stage .ensures .0 .1, λ f y h. h)
 
 follows-requires : tie.Need-follows-requires Inv-loop μ-loop
-follows-requires c κs = let given = c .before .before .before .before .before .before .before .before .before .before .before .before in (given .pre .valid, c .loop .inv .0)
+follows-requires c κs = let given = c .before .before .before .before .before .before .before .before .before in (given .pre .0 .valid, c .loop .inv .0)
 
 round-requires : tie.Need-round-requires Inv-loop μ-loop
 round-requires c κs =
     let now = c .before .before .before .loop in
-    let given = c .before .before .before .before .before .before .before .before .before .before .before .before .before .before .before in
+    let given = c .before .before .before .before .before .before .before .before .before .before .before .before in
     let (some-left, few-left) = follows-yes (given .args .p) (now .pending) (now .r) _ (c .before .before .follows .ensures) (c .before .if1 .taken) in
     (now .inv .1, omega (arith, some-left, few-left))
 
@@ -67,14 +50,14 @@ add-r c = search needs
 stage-requires-2 : tie.Need-stage-requires-2 Inv-loop μ-loop
 stage-requires-2 c κs =
     let now = c .before .before .before .before .before .loop in
-    let given = c .before .before .before .before .before .before .before .before .before .before .before .before .before .before .before .before .before in
+    let given = c .before .before .before .before .before .before .before .before .before .before .before .before .before .before in
     let (some-left, few-left) =
     follows-yes (given .args .p) (now .pending) (now .r) _ (c .before .before .before .before .follows .ensures) (c .before .before .before .if1 .taken) in
     (now .inv .1, omega (arith, some-left, few-left))
 
 loop-less : tie.Need-loop-less Inv-loop μ-loop
 loop-less c =
-    let given = c .before .before .before .before .before .before .before .before .before .before .before .before .before .before .before .before .before .before .before .before .before .before in
+    let given = c .before .before .before .before .before .before .before .before .before .before .before .before .before .before .before .before .before .before .before in
     let now = c .before .before .before .before .before .before .before .before .before .before .loop in
     let (some-left, few-left) =
     follows-yes (given .args .p) (now .pending) (now .r) _ (c .before .before .before .before .before .before .before .before .before .follows .ensures) (c .before .before .before .before .before .before .before .before .if1 .taken) in
@@ -82,12 +65,12 @@ loop-less c =
 
 loop-again : tie.Need-loop-again Inv-loop μ-loop
 loop-again c =
-    let given = c .before .before .before .before .before .before .before .before .before .before .before .before .before .before .before .before .before .before .before .before .before .before in
+    let given = c .before .before .before .before .before .before .before .before .before .before .before .before .before .before .before .before .before .before .before in
     let now = c .before .before .before .before .before .before .before .before .before .before .loop in
     let (some-left, few-left) =
     follows-yes (given .args .p) (now .pending) (now .r) _ (c .before .before .before .before .before .before .before .before .before .follows .ensures) (c .before .before .before .before .before .before .before .before .if1 .taken) in
     let p = given .args .p in
-    let ok = given .pre .valid in
+    let ok = given .pre .0 .valid in
     let round = c .before .before .before .before .before .before .round in
     let stage = c .before .before .before .before .stage2 in (
       omega (arith, some-left, few-left),
@@ -103,25 +86,23 @@ loop-again c =
     )
 
 unsettled-requires : tie.Need-unsettled-requires Inv-loop μ-loop
-unsettled-requires c κs = c .before .before .before .before .before .before .before .before .before .before .before .before .before .before .pre .valid .subwords .1
+unsettled-requires c κs = c .before .before .before .before .before .before .before .before .before .before .before .pre .0 .valid .subwords .1
 
 same-length : tie.Need-same-length Inv-loop μ-loop
 same-length c = search needs
 
 returns : tie.Need-returns Inv-loop μ-loop
 returns c =
-    let given = c .before .before .before .before .before .before .before .before .before .before .before .before .before .before .before in
+    let given = c .before .before .before .before .before .before .before .before .before .before .before .before in
     let now = c .before .before .before .loop in
-    let ok = given .pre .valid in
+    let ok = given .pre .0 .valid in
     let p = given .args .p in
     let f = given .args .form in
     let y = given .args .block .now in
     let stage = c .before .before .before .before .before .before .before .before .stage in
     let start = c .before .before .before .before .before .before .before .before .before .before .start in
-    let syndromes = c .before .before .before .before .before .before .before .before .before .before .before .syndromes in
-    let rows = syndromes .ensures ∙ ap (λ t. received p (bytes y) (2 * t)) (c .before .before .before .before .before .before .before .before .before .before .before .before .capability .ensures) in
-    let first = at-first p f y (start .result) (syndromes .result) (start .ensures) rows _ (stage .result)
-    (stage .ensures .1 f (before-first p f y (start .result) (syndromes .result) (start .ensures) rows)) in
+    let first = at-first p f y (start .result) (given .args .syndromes) (start .ensures) (given .pre .1) _ (stage .result)
+    (stage .ensures .1 f (before-first p f y (start .result) (given .args .syndromes) (start .ensures) (given .pre .1))) in
     subst (λ (w : ℕ). Reached p f (bytes y) (bytes (now .block)) (record { settled = eqb w 0; stage = now .r; lines = now .lines })) (sym (c .unsettled .ensures))
     (reached p ok f (bytes y) (now .r) (now .block) (now .pending) (now .lines) (now .table) (omega (arith, ok .subwords .1, now .inv .2))
     (now .inv .4 f (bytes y) first) (now .inv .3) (sym (c .before .before .follows .ensures) ∙ c .before .if1 .left))
@@ -132,10 +113,6 @@ run-spec =
     (tie.spec
     Inv-loop
     μ-loop
-    capability-requires
-    cast-syndromes
-    mul-syndromes
-    syndromes-requires
     start-requires
     stage-requires
     loop-holds

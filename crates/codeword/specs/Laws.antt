@@ -1,0 +1,100 @@
+-- Laws of the codeword check.
+--
+-- Proved: a table of syndromes that is zero says that the subwords are in the code of t0, and a codeword has such a table (zeros-subwords, not-zeros); then the nested words' syndromes below 2 t0 are zero
+-- too, and the block is a codeword exactly if those from there on are (check-passes, check-fails); a nested word's syndromes are those of its remainder
+-- (word-syndrome).
+use Prim.Native.Nat.{ℕ, _+_, _-_, _*_, _≤_, _<_}
+use mathlib.Core.Path.{_≡_, sym, ap, _∙_, subst}
+use mathlib.Core.Logic.{_≢_, by-cases}
+use mathlib.Core.Bool.{true, false, true≢false, decide-iff}
+use mathlib.Core.List.{List, []}
+use native.Mathlib.Decide.{decLt, ℕ-discrete}
+use native.Mathlib.Omega.{arith}
+use borrow.Author.Tests.{lt-ltb, le-ltb}
+use lib.ListN.{length, getD, set, length-set}
+use lib.Seq.{getD-set-same, getD-set-other}
+use Rattle.field.specs.declared.Gf.{Gf}
+use Rattle.field.specs.Field.{𝟎, _⊙_, α, pow, ⊙-zero}
+use Rattle.series.specs.Sum.{sum-zero}
+use Rattle.series.specs.Series.{Series, O, O-at}
+use Rattle.series.specs.Shift.{cut-low, cut-unique}
+use Rattle.series.specs.Array.{bytes}
+use Rattle.series.specs.Decide.{holds, holds-yes, holds-no}
+use Rattle.series.specs.Value.{value-more, value-zero}
+use Rattle.profile.specs.declared.Profile.{Profile}
+use Rattle.profile.specs.Definition.{capability, checks}
+use Rattle.profile.specs.Valid.{Valid, checks-is, checks-mono, checks-least, checks-most}
+use Rattle.generator.specs.Table.{Table}
+use Rattle.reed_solomon.specs.Definition.{root, syndrome}
+use Rattle.reed_solomon.specs.Systematic.{syndrome-is}
+use Rattle.reed_solomon.specs.Residue.{below-residue, residue-syndrome}
+use Rattle.code.specs.Definition.{nested, Codeword}
+use Rattle.code.specs.Block.{syndrome-nested}
+use Rattle.code.specs.Encoding.{codeword?}
+use Rattle.code.specs.Check.{Subwords, table, received}
+use Rattle.codeword.specs.Definition.{further, zeros?, left, Vanish, Remainders}
+
+-- ---- the subwords
+
+pub zeros-subwords : (p : Profile) (s : Series) (t : List (List Gf)) → Valid p → table t ≡ received p s (2 * p .t0) → holds (zeros? t) ≡ true → Subwords p s
+zeros-subwords p s t ok is e i h j l =
+    sym (cut-low (2 * p .t0) _ j l)
+    ∙ (rw (lt-ltb i (p .subwords) h) at (sym (ap (λ (f : ℕ → Series). f i j) is)))
+    ∙ ap (λ (f : Series). f j) (decide-iff (zeros? t) .0 e i (omega (arith, ok .subwords .1)))
+    ∙ O-at j
+
+zeros-clean : (p : Profile) (s : Series) (t : List (List Gf)) → table t ≡ received p s (2 * p .t0) → Codeword p s → (i : ℕ) → table t i ≡ O
+zeros-clean p s t is c i = ap (λ (f : ℕ → Series). f i) is ∙ go (decLt i (p .subwords))
+  where
+    go : Dec (i < p .subwords) → received p s (2 * p .t0) i ≡ O
+    go (yes h) = rw (lt-ltb i (p .subwords) h) (cut-unique _ _ O (λ j l. c .subwords i h j l ∙ sym (O-at j)) (λ j _. O-at j))
+    go (no h) = rw (le-ltb i (p .subwords) (omega arith))
+
+pub not-zeros : (p : Profile) (s : Series) (t : List (List Gf)) → table t ≡ received p s (2 * p .t0) → holds (zeros? t) ≡ false → false ≡ holds (codeword? p s)
+not-zeros p s t is e =
+    sym (holds-no (codeword? p s) (λ c. true≢false (sym (holds-yes (zeros? t) (λ i _. zeros-clean p s t is c i)) ∙ e)))
+
+-- ---- the nested words
+
+pub roots-for : {first k j : ℕ} {t : List ℕ} → k ≡ j → Table first k t → Table first j t
+roots-for {first} {t = t} e = subst (λ k. Table first k t) e
+
+-- the rows l < v, and one more
+pub remainders-more : (p : Profile) (s : Series) (l : ℕ) (r : List (List ℕ)) (x : List ℕ) → l < 3 → length x ≡ 48 → bytes x ≡ left p s l → Remainders p s l r
+    → Remainders p s (l + 1) (set r l x)
+remainders-more p s l r x low full is (long, rows) =
+    (length-set r l x ∙ long, λ i h. go i h (ℕ-discrete i l))
+  where
+    go : (i : ℕ) → i < l + 1 → Dec (i ≡ l) → (length (getD (set r l x) i []) ≡ 48) × (bytes (getD (set r l x) i []) ≡ left p s i)
+    go i h (yes e) = rw (e, getD-set-same r l x [] (omega arith)) (full, is)
+    go i h (no n) = rw (getD-set-other r l i x [] n) (rows i (omega (arith, n)))
+
+module _ (p : Profile) (s : Series) (inner : Subwords p s) where
+  nested-low : (l j : ℕ) → j < 2 * p .t0 → syndrome (p .length) (nested p s l) j ≡ 𝟎
+  nested-low l j h =
+      syndrome-nested p s l j ∙ sum-zero (p .subwords) _ (λ i u. ap (λ x. pow α (i * l) ⊙ x) (inner i u j h) ∙ ⊙-zero _)
+
+  pub check-passes : ((l : ℕ) → l < p .nested → Vanish p s l) → true ≡ holds (codeword? p s)
+  check-passes h = sym (holds-yes (codeword? p s) (record { subwords = inner; nested-words = λ l u j q. go l u j q (decLt j (2 * p .t0)) }))
+    where
+      go : (l : ℕ) → l < p .nested → (j : ℕ) → j < 2 * capability p (p .nested - l) → Dec (j < 2 * p .t0) → syndrome (p .length) (nested p s l) j ≡ 𝟎
+      go l u j q (yes low) = nested-low l j low
+      go l u j q (no high) = h l u j (omega arith) (omega (arith, checks-is p l))
+
+-- nested word l by its remainder, which the array r holds
+module _ (p : Profile) (s : Series) (ok : Valid p) (l : ℕ) (r : List ℕ) (long : length r ≡ 48) (is : bytes r ≡ left p s l) where
+  pub word-syndrome : (j : ℕ) → 2 * p .t0 ≤ j → j < checks p l → syndrome (length r) (bytes r) j ≡ syndrome (p .length) (nested p s l) j
+  word-syndrome j low h =
+      let e : 2 * p .t0 + (j - 2 * p .t0) ≡ j = omega arith in
+      ap (λ (f : Series). syndrome (length r) f j) is
+      ∙ syndrome-is (length r) _ j
+      ∙ value-more (further p) (length r) _ (root j) (below-residue (2 * p .t0) (p .length) (further p) (nested p s l)) (omega (arith, checks-most p ok 0))
+      ∙ (rw e at (residue-syndrome (2 * p .t0) (p .length) (further p) (nested p s l) (omega (arith, checks-least p ok 0, checks-most p ok 0)) (j - 2 * p .t0)
+      (omega (arith, checks-mono p ok 0 l (omega arith)))))
+
+  pub check-fails : (j : ℕ) → l < p .nested → 2 * p .t0 ≤ j → j < checks p l → syndrome (length r) (bytes r) j ≢ 𝟎 → false ≡ holds (codeword? p s)
+  check-fails j h low q n = sym (holds-no (codeword? p s) (λ c. n (word-syndrome j low q ∙ c .nested-words l h j (omega (arith, checks-is p l)))))
+
+-- a remainder of which no syndrome is looked at
+pub none-looked : (r : List ℕ) (j : ℕ) → bytes r ≡ O → syndrome (length r) (bytes r) j ≡ 𝟎
+none-looked r j z = ap (λ (f : Series). syndrome (length r) f j) z ∙ syndrome-is (length r) O j ∙ value-zero (length r) O (root j) (λ i _. O-at i)
