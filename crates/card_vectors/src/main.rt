@@ -2,13 +2,12 @@
 // document 01 cut at every byte and followed by one byte too many. tools/make_card_vectors.py made both files.
 //
 // Standard input is the number of cards and the cards, each after its size. These numbers have two bytes, the high byte first.
-ghost use Prim.Native.Nat.{_+_, _≤_, _<_};
+ghost use Prim.Native.Nat.{_≤_, _<_};
 ghost use mathlib.Core.Path.{_≡_};
 ghost use mathlib.Core.Bool.{false};
-ghost use lib.ListN.{length};
-ghost use Rattle.card.specs.Turn.{wanted, Good, over, left};
-use card::Section;
+ghost use Rattle.section.specs.Definition.{over, left};
 use listing::LINE;
+use section::Section;
 use text::input;
 use text::print;
 
@@ -21,7 +20,6 @@ fn end(at: usize, n: usize, size: usize) -> usize
     requires { ⌜ at ≤ size ⌝ }
     ensures from { λ e. ⌜ at ≤ e ⌝ }
     ensures within { λ e. ⌜ e ≤ size ⌝ }
-    ensures short { λ e. ⌜ e ≤ at + n ⌝ }
 {
     if size - at < n {
         return size;
@@ -30,13 +28,11 @@ fn end(at: usize, n: usize, size: usize) -> usize
 }
 
 // Prints the line of a section, and tells what comes next.
-fn turn(s: Section, section: &[u8]) -> Section
-    requires { ⌜ Good s × (length (now section) ≤ wanted s) ⌝ }
-    ensures good { λ r. ⌜ Good r ⌝ }
-    ensures falls { λ r. ⌜ (over s ≡ false → left r < left s) ⌝ }
+fn turn(s: Section, bytes: &[u8]) -> Section
+    ensures { λ r. ⌜ (over s ≡ false → left r < left s) ⌝ }
 {
     let mut line = blank();
-    let t = card::judge(s, section, &mut line);
+    let t = card::judge(s, bytes, &mut line);
     io::write_all(1, &line[..t.size]);
     let next = t.next;
     next
@@ -45,8 +41,8 @@ fn turn(s: Section, section: &[u8]) -> Section
 fn list(card: &[u8]) {
     let mut s = Section::Size;
     let mut at: usize = 0;
-    while !card::is_over(s) {
-        let e = end(at, card::wanted(s), card.len());
+    while !section::is_over(s) {
+        let e = end(at, section::wanted(s), card.len());
         let next = turn(s, &card[at..e]);
         s = next;
         at = e;

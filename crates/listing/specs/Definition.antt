@@ -6,15 +6,15 @@
 --   ok-line i r c          block i was read, r being the last stage and c the number of changed symbols
 --   refused-line i q       block i was refused by the number q
 --   card-line q            the card was refused by the number q
---   Says x n l             the array l begins with n bytes that are the text x
-use Prim.Native.Nat.{ℕ, zero, suc, _+_, _/_, _%_, _≤_}
+--   Printed x l n m        the text x was printed into an array that was l: it has n bytes, and the array is m now, with the bytes behind the text as they were
+use Prim.Native.Nat.{ℕ, zero, suc, _+_, _/_, _%_}
 use Prim.Native.Char.{code}
 use Prim.Native.String.{String, [] as none, _∷_ as _and_}
 use mathlib.Core.Path.{_≡_}
 use mathlib.Core.Bool.{cond}
 use mathlib.Core.List.{List, [], _∷_, _++_}
 use lib.Dec.{ltb}
-use lib.ListN.{length, take}
+use lib.ListN.{length, drop}
 
 abbrev pub ascii : String → List ℕ
 ascii none = []
@@ -49,6 +49,6 @@ refused-line i q = decimal i ++ ascii " refused " ++ decimal q ++ ascii "\n"
 abbrev pub card-line : ℕ → List ℕ
 card-line q = ascii "card refused " ++ decimal q ++ ascii "\n"
 
-pub record Says (x : List ℕ) (n : ℕ) (l : List ℕ) : Type 0 where
-  pub size : n ≤ length l
-  pub says : take n l ≡ x
+pub record Printed (x l : List ℕ) (n : ℕ) (m : List ℕ) : Type 0 where
+  pub size : n ≡ length x
+  pub says : m ≡ x ++ drop n l

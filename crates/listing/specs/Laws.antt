@@ -1,50 +1,60 @@
 -- Texts that are written one after the other, and the digits of a number.
 --
---   Put a x l e m    the text x was written to the array l from a on: it ends at e, and the array is m now
+--   Put a x l e m    the text x was written to the array l from a on: it ends at e, and the array is m now, with the bytes behind the text as they were
 --
 -- Proved: what two texts come to that are written one after the other (put-then), what a store (put-one) and a copy (put-all) come to, what a line is that
 -- was written from 0 on (put-line); the digits of a number (decimal-one, decimal-more), and that a number below 2^16 has at most five (decimal-short); what is
 -- written digit by digit (put-low, put-high).
 use Prim.Native.Nat.{ℕ, zero, suc, _+_, _*_, _/_, _%_, _≤_, _<_}
-use mathlib.Core.Path.{_≡_, refl, sym, ap, _∙_}
+use mathlib.Core.Path.{_≡_, refl, sym, ap, ap₂, _∙_}
 use mathlib.Core.Logic.{by-cases}
 use mathlib.Core.List.{List, [], _∷_, _++_, append-assoc}
 use native.Mathlib.Nat.{div-add-mod'}
 use native.Mathlib.Decide.{decLt}
 use native.Mathlib.Omega.{arith}
 use borrow.Author.Tests.{lt-ltb, le-ltb}
-use lib.ListN.{length, take, set, length-set, length-append}
-use lib.Seq.{take-suc-set, paste, take-paste, length-paste}
-use Rattle.listing.specs.Definition.{glyph, digits, decimal, Says}
+use lib.ListN.{length, take, drop, set, length-set, length-append, take-append-drop}
+use lib.Seq.{drop-drop, drop-set-lt, take-length, take-suc-set, paste, take-paste, drop-paste, length-paste}
+use Rattle.listing.specs.Definition.{glyph, digits, decimal, Printed}
 
 pub record Put (a : ℕ) (x l : List ℕ) (e : ℕ) (m : List ℕ) : Type 0 where
   pub end : e ≡ a + length x
   pub long : length m ≡ length l
   pub says : take e m ≡ take a l ++ x
+  pub rest : drop e m ≡ drop e l
 
 pub put-then : {a e b : ℕ} {x y l m k : List ℕ} → Put a x l e m → Put e y m b k → Put a (x ++ y) l b k
 put-then {a = a} {e = e} {b = b} {x = x} {y = y} {l = l} {m = m} {k = k} p q = record {
   end = q .end ∙ omega (arith, p .end, length-append x y);
   long = q .long ∙ p .long;
   says = q .says ∙ ap (λ (w : List ℕ). w ++ y) (p .says) ∙ append-assoc (take a l) x y;
+  rest =
+      q .rest
+      ∙ ap (λ (n : ℕ). drop n m) (q .end)
+      ∙ sym (drop-drop (length y) e m)
+      ∙ ap (drop (length y)) (p .rest)
+      ∙ drop-drop (length y) e l
+      ∙ ap (λ (n : ℕ). drop n l) (sym (q .end));
 }
 
 pub put-one : (a d : ℕ) (l : List ℕ) → a < length l → Put a (d ∷ []) l (a + 1) (set l a d)
-put-one a d l h = record { end = refl; long = length-set l a d; says = ap (λ (n : ℕ). take n (set l a d)) {x = a + 1} {y = suc a} (omega arith) ∙ take-suc-set l a d h }
+put-one a d l h = record {
+  end = refl;
+  long = length-set l a d;
+  says = ap (λ (n : ℕ). take n (set l a d)) {x = a + 1} {y = suc a} (omega arith) ∙ take-suc-set l a d h;
+  rest = drop-set-lt (a + 1) l a d (omega arith);
+}
 
 pub put-all : (a : ℕ) (x l m : List ℕ) → a + length x ≤ length l → m ≡ paste l a x (length x) → Put a x l (a + length x) m
 put-all a x l m h e = record {
   end = refl;
   long = ap length e ∙ length-paste l a x (length x) h (omega arith);
-  says = ap (take (a + length x)) e ∙ take-paste l a x (length x) (omega arith) (omega arith) ∙ ap (λ (w : List ℕ). take a l ++ w) (whole x);
+  says = ap (take (a + length x)) e ∙ take-paste l a x (length x) (omega arith) (omega arith) ∙ ap (λ (w : List ℕ). take a l ++ w) (take-length x);
+  rest = ap (drop (a + length x)) e ∙ drop-paste l a x (length x) (omega arith) (omega arith);
 }
-  where
-    whole : (x : List ℕ) → take (length x) x ≡ x
-    whole [] = refl
-    whole (b ∷ x) = ap (λ (l : List ℕ). b ∷ l) (whole x)
 
-pub put-line : {x l m : List ℕ} {e : ℕ} → Put 0 x l e m → e ≤ length l → Says x e m
-put-line p h = record { size = omega (arith, p .long, h); says = p .says }
+pub put-line : {x l m : List ℕ} {e : ℕ} → Put 0 x l e m → Printed x l e m
+put-line {m = m} {e = e} p = record { size = omega (arith, p .end); says = sym (take-append-drop e m) ∙ ap₂ _++_ (p .says) (p .rest) }
 
 -- ---- digits
 

@@ -2,7 +2,7 @@
 ghost use Prim.Native.Nat.{_+_, _≤_, _<_};
 ghost use mathlib.Core.List.{[], _∷_};
 ghost use lib.ListN.{length};
-ghost use Rattle.listing.specs.Definition.{glyph, decimal, blocks-line, ok-line, refused-line, card-line, Says};
+ghost use Rattle.listing.specs.Definition.{glyph, decimal, blocks-line, ok-line, refused-line, card-line, Printed};
 ghost use Rattle.listing.specs.Laws.{Put};
 
 // Room for a line, the longest of which has 21 bytes.
@@ -52,7 +52,7 @@ fn number(line: &mut [u8], at: usize, n: u16) -> usize
 }
 
 pub fn blocks(n: u16, line: &mut [u8; LINE]) -> usize
-    ensures { λ r. ⌜ Says (blocks-line n) r (now (line .exit)) ⌝ }
+    ensures { λ r. ⌜ Printed (blocks-line n) (now (line .entry)) r (now (line .exit)) ⌝ }
 {
     let a = put(line, 0, b"blocks ");
     let b = number(line, a, n);
@@ -60,7 +60,7 @@ pub fn blocks(n: u16, line: &mut [u8; LINE]) -> usize
 }
 
 pub fn ok(index: u16, last: u8, changed: u16, line: &mut [u8; LINE]) -> usize
-    ensures { λ r. ⌜ Says (ok-line index last changed) r (now (line .exit)) ⌝ }
+    ensures { λ r. ⌜ Printed (ok-line index last changed) (now (line .entry)) r (now (line .exit)) ⌝ }
 {
     let a = number(line, 0, index);
     let b = put(line, a, b" ok ");
@@ -71,7 +71,7 @@ pub fn ok(index: u16, last: u8, changed: u16, line: &mut [u8; LINE]) -> usize
 }
 
 pub fn refused(index: u16, q: u8, line: &mut [u8; LINE]) -> usize
-    ensures { λ r. ⌜ Says (refused-line index q) r (now (line .exit)) ⌝ }
+    ensures { λ r. ⌜ Printed (refused-line index q) (now (line .entry)) r (now (line .exit)) ⌝ }
 {
     let a = number(line, 0, index);
     let b = put(line, a, b" refused ");
@@ -80,7 +80,7 @@ pub fn refused(index: u16, q: u8, line: &mut [u8; LINE]) -> usize
 }
 
 pub fn card(q: u8, line: &mut [u8; LINE]) -> usize
-    ensures { λ r. ⌜ Says (card-line q) r (now (line .exit)) ⌝ }
+    ensures { λ r. ⌜ Printed (card-line q) (now (line .entry)) r (now (line .exit)) ⌝ }
 {
     let a = put(line, 0, b"card refused ");
     let b = number(line, a, q as u16);

@@ -72,7 +72,7 @@ fn length(p: Profile) -> bool
 }
 
 // The questions after the first, one by one.
-fn judge(p: Profile) -> Parsed
+pub fn judge(p: Profile) -> Parsed
     ensures { λ a. ⌜ a ≡ judged p ⌝ }
 {
     if !subwords(p) {

@@ -1,15 +1,15 @@
--- A section that can come is next, and every turn takes one away.
+-- Every turn brings the end nearer.
 use Prim.Native.Nat.{_≤_}
 use mathlib.Core.Path.{sym, _∙_}
 use lib.ListN.{length}
 use Rattle.profile.specs.Laws.{unless}
-use Rattle.card.specs.Turn.{Good, left}
+use Rattle.section.specs.Definition.{left}
 use borrow.Author.Needs.{needs}
 use Rattle.card_vectors.proofs.list.Statement.{statement}
 use Rattle.card_vectors.proofs.list.Tie as tie
 
 abbrev Inv-loop : tie.InvT-loop
-Inv-loop card s₀ at₀ s at = Good s × (at ≤ length card)
+Inv-loop card s₀ at₀ s at = at ≤ length card
 
 abbrev μ-loop : tie.MeasureT-loop
 μ-loop card s₀ at₀ s at = left s
@@ -39,7 +39,7 @@ turn-requires : tie.Need-turn-requires Inv-loop μ-loop
 turn-requires c κs = search needs
 
 loop-less : tie.Need-loop-less Inv-loop μ-loop
-loop-less c = c .turn .ensures .1 (sym (c .before .before .before .before .before .is-over .ensures) ∙ unless _ (c .before .before .before .before .if1 .taken))
+loop-less c = c .turn .ensures (sym (c .before .before .before .before .before .is-over .ensures) ∙ unless _ (c .before .before .before .before .if1 .taken))
 
 loop-again : tie.Need-loop-again Inv-loop μ-loop
 loop-again c = search needs

@@ -1,7 +1,4 @@
 -- Three texts, one after the other.
-use mathlib.Core.Path.{_≡_}
-use native.Mathlib.Omega.{arith}
-use lib.ListN.{length}
 use Rattle.listing.specs.Laws.{put-then, put-line}
 use borrow.Author.Needs.{needs}
 use Rattle.listing.proofs.card.Statement.{statement}
@@ -24,10 +21,9 @@ put-requires-2 c κs = search needs
 
 returns : tie.Need-returns
 returns c =
-    let long : length (c .before .before .before .before .before .before .before .before .args .line .now) ≡ 32 = search needs in
     let a = c .before .before .before .before .before .put .ensures in
     let b = c .before .before .before .number .ensures in
-    put-line (put-then (put-then a (b .0)) (c .put2 .ensures)) (omega (arith, long, a .end, b .1, c .put2 .ensures .end))
+    put-line (put-then (put-then a (b .0)) (c .put2 .ensures))
 
 pub card-spec : {M : Type 1} → statement M
 card-spec =

@@ -1,7 +1,4 @@
 -- Six texts, one after the other.
-use mathlib.Core.Path.{_≡_}
-use native.Mathlib.Omega.{arith}
-use lib.ListN.{length}
 use Rattle.listing.specs.Laws.{put-then, put-line}
 use borrow.Author.Needs.{needs}
 use Rattle.listing.proofs.ok.Statement.{statement}
@@ -36,15 +33,12 @@ put-requires-3 c κs = search needs
 
 returns : tie.Need-returns
 returns c =
-    let long : length (c .before .before .before .before .before .before .before .before .before .before .before .before .before .before .before .args .line .now) ≡ 32 = search needs in
     let a = c .before .before .before .before .before .before .before .before .before .before .before .before .before .number .ensures in
     let b = c .before .before .before .before .before .before .before .before .before .before .put .ensures in
     let d = c .before .before .before .before .before .before .before .before .number2 .ensures in
     let e = c .before .before .before .before .before .put2 .ensures in
     let f = c .before .before .before .number3 .ensures in
-    put-line
-    (put-then (put-then (put-then (put-then (put-then (a .0) b) (d .0)) e) (f .0)) (c .put3 .ensures))
-    (omega (arith, long, a .1, b .end, d .1, e .end, f .1, c .put3 .ensures .end))
+    put-line (put-then (put-then (put-then (put-then (put-then (a .0) b) (d .0)) e) (f .0)) (c .put3 .ensures))
 
 pub ok-spec : {M : Type 1} → statement M
 ok-spec =

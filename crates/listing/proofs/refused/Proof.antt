@@ -1,7 +1,4 @@
 -- Four texts, one after the other.
-use mathlib.Core.Path.{_≡_}
-use native.Mathlib.Omega.{arith}
-use lib.ListN.{length}
 use Rattle.listing.specs.Laws.{put-then, put-line}
 use borrow.Author.Needs.{needs}
 use Rattle.listing.proofs.refused.Statement.{statement}
@@ -27,11 +24,10 @@ put-requires-2 c κs = search needs
 
 returns : tie.Need-returns
 returns c =
-    let long : length (c .before .before .before .before .before .before .before .before .before .before .args .line .now) ≡ 32 = search needs in
     let a = c .before .before .before .before .before .before .before .before .number .ensures in
     let b = c .before .before .before .before .before .put .ensures in
     let d = c .before .before .before .number2 .ensures in
-    put-line (put-then (put-then (put-then (a .0) b) (d .0)) (c .put2 .ensures)) (omega (arith, long, a .1, b .end, d .1, c .put2 .ensures .end))
+    put-line (put-then (put-then (put-then (a .0) b) (d .0)) (c .put2 .ensures))
 
 pub refused-spec : {M : Type 1} → statement M
 refused-spec =

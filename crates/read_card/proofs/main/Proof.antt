@@ -1,19 +1,19 @@
--- A section that can come is next, and every turn takes one away.
+-- Every turn brings the end nearer.
 use mathlib.Core.Path.{_≡_, sym, _∙_}
 use native.Mathlib.Omega.{arith}
 use lib.ListN.{length}
 use lib.Seq.{length-take-le, length-front}
 use Rattle.profile.specs.Laws.{unless}
-use Rattle.card.specs.Turn.{Good, left}
+use Rattle.section.specs.Definition.{left}
 use borrow.Author.Needs.{needs}
 use Rattle.read_card.proofs.main.Statement.{statement}
 use Rattle.read_card.proofs.main.Tie as tie
 
 abbrev Inv-loop : tie.InvT-loop
-Inv-loop section₀ s₀ section s = Good s × (length section ≡ 2040)
+Inv-loop bytes₀ s₀ bytes s = length bytes ≡ 2040
 
 abbrev μ-loop : tie.MeasureT-loop
-μ-loop section₀ s₀ section s = left s
+μ-loop bytes₀ s₀ bytes s = left s
 
 room-requires : tie.Need-room-requires Inv-loop μ-loop
 room-requires c κs = search needs
@@ -27,26 +27,23 @@ is-over-requires c κs = search needs
 wanted-requires : tie.Need-wanted-requires Inv-loop μ-loop
 wanted-requires c κs = search needs
 
-array-borrow-prefix-section : tie.Need-array-borrow-prefix-section Inv-loop μ-loop
-array-borrow-prefix-section c = search needs
+array-borrow-prefix-bytes : tie.Need-array-borrow-prefix-bytes Inv-loop μ-loop
+array-borrow-prefix-bytes c = search needs
 
 slice-aggregate-turn : tie.Need-slice-aggregate-turn Inv-loop μ-loop
-slice-aggregate-turn c = sym (length-take-le _ _ (omega (arith, c .before .wanted .ensures .1, c .before .before .before .before .loop .inv .1)))
+slice-aggregate-turn c = sym (length-take-le _ _ (omega (arith, c .before .wanted .ensures .1, c .before .before .before .before .loop .inv)))
 
 turn-requires : tie.Need-turn-requires Inv-loop μ-loop
-turn-requires c κs =
-    let now = c .before .before .before .before .loop in
-    let wanted = c .before .wanted .ensures in
-    (now .inv .0, omega (arith, wanted .0, length-take-le (c .before .wanted .result) (now .section) (omega (arith, wanted .1, now .inv .1))))
+turn-requires c κs = search needs
 
 loop-less : tie.Need-loop-less Inv-loop μ-loop
-loop-less c = c .before .turn .ensures .1 (sym (c .before .before .before .before .before .is-over .ensures) ∙ unless _ (c .before .before .before .before .if1 .taken))
+loop-less c = c .before .turn .ensures (sym (c .before .before .before .before .before .is-over .ensures) ∙ unless _ (c .before .before .before .before .if1 .taken))
 
 loop-again : tie.Need-loop-again Inv-loop μ-loop
 loop-again c =
     let now = c .before .before .before .before .before .before .loop in
     let wanted = c .before .before .before .wanted in
-    (c .before .turn .ensures .0, length-front (now .section) (c .before .turn .last .1 .0) (wanted .result) (c .before .turn .kept .1 .0) ∙ now .inv .1)
+    length-front (now .bytes) (c .before .turn .last .1 .0) (wanted .result) (c .before .turn .kept .1 .0) ∙ now .inv
 
 returns : tie.Need-returns Inv-loop μ-loop
 returns c = search needs
@@ -61,7 +58,7 @@ main-spec =
     loop-holds
     is-over-requires
     wanted-requires
-    array-borrow-prefix-section
+    array-borrow-prefix-bytes
     slice-aggregate-turn
     turn-requires
     loop-less

@@ -1,0 +1,35 @@
+-- The line of a block: document 01, "The card and its printed list".
+--
+--   line i r          the line of block i, r being what reading it came to
+--   block-line p i y  .. which holds y
+--   text p i y        what is printed for y: nothing if it is not a block of an accepted profile
+--   told i a r c      the line of block i, from what is answered and reported
+use Prim.Native.Nat.{ℕ}
+use mathlib.Core.Bool.{cond, _&&_}
+use mathlib.Core.List.{List, []}
+use lib.Dec.{eqb}
+use lib.ListN.{length}
+use Rattle.series.specs.Array.{bytes}
+use Rattle.profile.specs.declared.Profile.{Profile}
+use Rattle.profile.specs.declared.Answer.{Answer}
+use Rattle.profile.specs.declared.Answer.the-variants.{Accepted, Refused}
+use Rattle.profile.specs.Definition.{block-size, number-of}
+use Rattle.staged.specs.Definition.{decode}
+use Rattle.reader.specs.Definition.{Result, read, refused, concluded}
+use Rattle.listing.specs.Definition.{ok-line, refused-line}
+use Rattle.section.specs.Definition.{accepts}
+
+-- "for each whole block its number and `ok`, last stage, changed bytes, or `refused` and the refusal number"
+abbrev pub line : ℕ → Result → List ℕ
+line i (read p s x) = ok-line i (x .last) (x .changed)
+line i (refused q) = refused-line i (number-of q)
+
+unfoldable pub block-line : Profile → ℕ → List ℕ → List ℕ
+block-line p i y = line i (concluded p (decode p (bytes y)))
+
+abbrev pub text : Profile → ℕ → List ℕ → List ℕ
+text p i y = cond (accepts p && eqb (length y) (block-size p)) (block-line p i y) []
+
+abbrev pub told : ℕ → Answer → ℕ → ℕ → List ℕ
+told i Accepted r c = ok-line i r c
+told i (Refused q) r c = refused-line i (number-of q)

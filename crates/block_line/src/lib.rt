@@ -1,0 +1,66 @@
+// The line of a block: the block is read, and what the reading came to is printed. What the promises speak of stands in specs/Definition.antt.
+ghost use mathlib.Core.Path.{_≡_};
+ghost use mathlib.Core.Bool.{_&&_};
+ghost use lib.Dec.{eqb};
+ghost use lib.ListN.{length};
+ghost use Rattle.profile.specs.Definition.{block-size};
+ghost use Rattle.code.specs.Check.{Fits};
+ghost use Rattle.listing.specs.Definition.{Printed};
+ghost use Rattle.section.specs.Definition.{accepts};
+ghost use Rattle.block_line.specs.Definition.{told as Told, block-line as BlockLine, text};
+use listing::LINE;
+use profile::Answer;
+use profile::Profile;
+use section::SECTION;
+use solver::Form;
+
+// Room for a block.
+fn room() -> [u8; SECTION] {
+    [0u8; SECTION]
+}
+
+// The line of block i, from what is answered and reported.
+fn told(i: u16, a: Answer, last: u8, changed: u16, line: &mut [u8; LINE]) -> usize
+    ensures { λ n. ⌜ Printed (Told i a last changed) (now (line .entry)) n (now (line .exit)) ⌝ }
+{
+    match a {
+        Answer::Accepted => listing::ok(i, last, changed, line),
+        Answer::Refused(q) => listing::refused(i, profile::number(q), line),
+    }
+}
+
+// Reads block i into the room that is lent. All three solvers answer alike; it is the plain one.
+fn read_block(p: Profile, i: u16, block: &[u8], out: &mut [u8], line: &mut [u8; LINE]) -> usize
+    requires { ⌜ Fits p (now block) × (length (now out) ≡ length (now block)) ⌝ }
+    ensures { λ n. ⌜ Printed (BlockLine p i (now (block .entry))) (now (line .entry)) n (now (line .exit)) ⌝ }
+{
+    let mut t = generator::room();
+    let mut u = generator::room();
+    codeword::tables(p, &mut t, &mut u);
+    let r = reader::read(p, Form::Plain, &t, &u, block, out);
+    let a = r.answer;
+    let report = r.report;
+    told(i, a, report.last, report.changed, line)
+}
+
+// Whether n bytes are a block of an accepted profile.
+fn is_block(p: Profile, n: usize) -> bool
+    ensures { λ b. ⌜ b ≡ accepts p && eqb n (block-size p) ⌝ }
+{
+    if section::accepted(p) {
+        return n == p.block_size();
+    }
+    false
+}
+
+// Prints the line of block i: none for bytes that are not a block of an accepted profile.
+pub fn print(p: Profile, i: u16, block: &[u8], line: &mut [u8; LINE]) -> usize
+    ensures { λ n. ⌜ Printed (text p i (now (block .entry))) (now (line .entry)) n (now (line .exit)) ⌝ }
+{
+    let n = block.len();
+    if is_block(p, n) {
+        let mut out = room();
+        return read_block(p, i, block, &mut out[..n], line);
+    }
+    0
+}

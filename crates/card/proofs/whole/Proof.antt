@@ -1,0 +1,99 @@
+-- By the section that comes.
+use mathlib.Core.Path.{sym, ap, _∙_}
+use mathlib.Core.Bool.{and-eq-true-iff}
+use native.Mathlib.Omega.{arith}
+use borrow.Author.Tests.{ltb-true}
+use lib.Dec.{ltb}
+use Rattle.section.specs.Definition.{good, size}
+use Rattle.section.specs.Laws.{takes-silent, takes-as}
+use Rattle.printed.specs.Turn.{whole}
+use borrow.Author.Needs.{needs}
+use Rattle.card.proofs.whole.Statement.{statement}
+use Rattle.card.proofs.whole.Tie as tie
+
+enum-told : tie.Need-enum-told
+enum-told c = search needs
+
+shared-slice-read-judge-size : tie.Need-shared-slice-read-judge-size
+shared-slice-read-judge-size c = omega (arith, c .before .before .before .before .pre .1, ap size (c .before .enum-told .given .1))
+
+judge-size-requires : tie.Need-judge-size-requires
+judge-size-requires c κs = search needs
+
+enum-told-2 : tie.Need-enum-told-2
+enum-told-2 c = search needs
+
+judge-bytes-requires : tie.Need-judge-bytes-requires
+judge-bytes-requires c κs = search needs
+
+enum-known-s : tie.Need-enum-known-s
+enum-known-s c = search needs
+
+shared-slice-read-judge-count : tie.Need-shared-slice-read-judge-count
+shared-slice-read-judge-count c = omega (arith, c .before .before .before .before .before .pre .1, ap size (c .before .before .s .given .1))
+
+shared-slice-read-judge-count-2 : tie.Need-shared-slice-read-judge-count-2
+shared-slice-read-judge-count-2 c = omega (arith, c .before .before .before .before .before .before .pre .1, ap size (c .before .before .before .s .given .1))
+
+judge-count-requires : tie.Need-judge-count-requires
+judge-count-requires c κs = search needs
+
+enum-known-s-2 : tie.Need-enum-known-s-2
+enum-known-s-2 c = search needs
+
+judge-block-requires : tie.Need-judge-block-requires
+judge-block-requires c κs =
+    let is = c .before .before .s2 .given .1 in
+    ltb-true _ _ (and-eq-true-iff _ _ .0 (sym (ap good is) ∙ c .before .before .before .before .before .pre .0) .0)
+
+enum-told-3 : tie.Need-enum-told-3
+enum-told-3 c = search needs
+
+refuse-requires : tie.Need-refuse-requires
+refuse-requires c κs = search needs
+
+enum-told-4 : tie.Need-enum-told-4
+enum-told-4 c = search needs
+
+returns : tie.Need-returns
+returns c = takes-as (sym (ap (λ s. whole s (c .before .before .before .before .before .before .args .bytes .now)) (c .before .before .before .enum-told .given .1))) (c .judge-size .ensures)
+
+returns-2 : tie.Need-returns-2
+returns-2 c = takes-as (sym (ap (λ s. whole s (c .before .before .before .before .before .args .bytes .now)) (c .before .before .enum-told2 .given .1))) (c .judge-bytes .ensures)
+
+returns-3 : tie.Need-returns-3
+returns-3 c = takes-as (sym (ap (λ s. whole s (c .before .before .before .before .before .before .before .before .args .bytes .now)) (c .before .before .before .before .before .s .given .1))) (c .judge-count .ensures)
+
+returns-4 : tie.Need-returns-4
+returns-4 c = takes-as (sym (ap (λ s. whole s (c .before .before .before .before .before .before .args .bytes .now)) (c .before .before .before .s2 .given .1))) (c .judge-block .ensures)
+
+returns-5 : tie.Need-returns-5
+returns-5 c = takes-as (sym (ap (λ s. whole s (c .before .before .before .before .before .args .bytes .now)) (c .before .before .enum-told3 .given .1))) (c .refuse .ensures)
+
+returns-6 : tie.Need-returns-6
+returns-6 c = takes-as (sym (ap (λ s. whole s (c .before .before .before .args .bytes .now)) (c .enum-told4 .given .1))) (takes-silent _ _)
+
+pub whole-spec : {M : Type 1} → statement M
+whole-spec =
+    tie.close
+    (tie.spec
+    enum-told
+    shared-slice-read-judge-size
+    judge-size-requires
+    enum-told-2
+    judge-bytes-requires
+    enum-known-s
+    shared-slice-read-judge-count
+    shared-slice-read-judge-count-2
+    judge-count-requires
+    enum-known-s-2
+    judge-block-requires
+    enum-told-3
+    refuse-requires
+    enum-told-4
+    returns
+    returns-2
+    returns-3
+    returns-4
+    returns-5
+    returns-6)

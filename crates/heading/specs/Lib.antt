@@ -1,0 +1,2 @@
+-- Definition is what the promises speak of.
+pub mod Definition
