@@ -23,7 +23,7 @@ use Rattle.profile.specs.Valid.{Valid}
 use Rattle.code.specs.Definition.{subword}
 use Rattle.code.specs.Newton.{newton, newton-none, newton-suc, newton-low, newton-nonzero}
 use Rattle.code.specs.Triangle.{ratio, ratio-low, carried, carried-at, corner}
-use Rattle.code.specs.Horner.{zeros}
+use Rattle.nested.specs.Horner.{zeros}
 
 unfoldable pub pascal : ℕ → ℕ → F
 pascal zero k = 𝟏
