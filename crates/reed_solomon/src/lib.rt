@@ -1,11 +1,11 @@
 // One Reed-Solomon word: roots, syndromes, check symbols.
 // What the promises speak of stands in specs/Definition.antt: `systematic n k w` is the word w with its k check symbols in place.
-ghost use Prim.Native.Nat.{_+_, _-_, _≤_, _<_};
+ghost use Prim.Native.Nat.{_+_, _-_, _%_, _≤_, _<_};
 ghost use mathlib.Core.Path.{_≡_};
 ghost use mathlib.Core.Logic.{_≢_};
 ghost use mathlib.Core.Bool.{true, false};
 ghost use lib.ListN.{length};
-ghost use Rattle.field.specs.Field.{val};
+ghost use Rattle.field.specs.Field.{_⊕_, _⊙_, of, val};
 ghost use Rattle.series.specs.Series.{O, _⊞_};
 ghost use Rattle.series.specs.Shift.{drop, cut};
 ghost use Rattle.series.specs.Array.{bytes};
@@ -13,6 +13,7 @@ ghost use Rattle.polynomial.specs.Polynomial.{row};
 ghost use Rattle.packed.specs.Packed.{packed};
 ghost use Rattle.generator.specs.Table.{Table};
 ghost use Rattle.reed_solomon.specs.Definition.{root as Root, syndrome as Syndrome, systematic};
+ghost use Rattle.reed_solomon.specs.Lanes.{Lanes};
 ghost use Rattle.reed_solomon.specs.Residue.{residue as Residue, Residual};
 use field::Exponent;
 use field::Gf;
@@ -125,15 +126,74 @@ pub fn is_zero(word: &[u8]) -> bool
     bits == 0
 }
 
+// The sixteen roots from root i on, each twice the one before it.
+fn roots(i: usize) -> [u8; 16]
+    requires { ⌜ i < 48 ⌝ }
+    ensures { λ r. ⌜ bytes r ≡ cut 16 (λ j. Root (i + j)) ⌝ }
+{
+    let mut out = [0u8; 16];
+    let mut x = root(i).0;
+    let mut j: usize = 0;
+    while j < 16 {
+        out[j] = x;
+        x = kernel::twice(x);
+        j += 1;
+    }
+    out
+}
+
+// A step of Horner's rule at sixteen points: no table and no branch, so sixteen products are taken at a time.
+fn horner(x: [u8; 16], v: [u8; 16], s: u8) -> [u8; 16]
+    ensures { λ r. ⌜ bytes r ≡ cut 16 (λ j. bytes x j ⊙ bytes v j ⊕ of s) ⌝ }
+{
+    let mut out = [0u8; 16];
+    let mut j: usize = 0;
+    while j < 16 {
+        out[j] = kernel::multiply(x[j], v[j]) ^ s;
+        j += 1;
+    }
+    out
+}
+
+// Syndromes i to i + 15.
+fn sixteen(r: &[u8], i: usize) -> [u8; 16]
+    requires { ⌜ i < 48 ⌝ }
+    ensures { λ v. ⌜ Lanes (length (now (r .entry))) (bytes (now (r .entry))) i v ⌝ }
+{
+    let x = roots(i);
+    let mut v = [0u8; 16];
+    let mut p: usize = r.len();
+    while p > 0 {
+        p -= 1;
+        let next = horner(x, v, r[p]);
+        v = next;
+    }
+    v
+}
+
+// The sixteen that syndrome i belongs to: these, or the next if i begins them.
+fn lanes(r: &[u8], i: usize, v: [u8; 16]) -> [u8; 16]
+    requires { ⌜ (i < 48) × (0 < i % 16 → Lanes (length (now r)) (bytes (now r)) (i - i % 16) v) ⌝ }
+    ensures { λ u. ⌜ Lanes (length (now (r .entry))) (bytes (now (r .entry))) (i - i % 16) u ⌝ }
+{
+    if i % 16 == 0 {
+        return sixteen(r, i);
+    }
+    v
+}
+
 // S_0 to S_(k-1) of a short word, as a remainder is, then zeros.
 pub fn values(r: &[u8], k: usize) -> [Gf; SYNDROMES]
     requires { ⌜ k ≤ 48 ⌝ }
     ensures { λ s. ⌜ row s ≡ cut k (Syndrome (length (now (r .entry))) (bytes (now (r .entry)))) ⌝ }
 {
     let mut out = [Gf::ZERO; SYNDROMES];
+    let mut v = [0u8; 16];
     let mut i: usize = 0;
     while i < k {
-        out[i] = syndrome(r, i);
+        let u = lanes(r, i, v);
+        out[i] = Gf(u[i % 16]);
+        v = u;
         i = i + 1;
     }
     out
