@@ -1,5 +1,5 @@
 -- The next sixteen where i begins them.
-use Prim.Native.Nat.{_-_, _%_, _<_}
+use Prim.Native.Nat.{_-_, _%_}
 use mathlib.Core.Path.{_≡_}
 use native.Mathlib.Omega.{arith}
 use borrow.Author.Needs.{needs}
