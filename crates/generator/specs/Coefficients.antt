@@ -55,7 +55,7 @@ root-power : (k : ℕ) → root k ≡ α ⊙ pow α k
 unfolding root
 root-power k = ap (pow α) (add-one k) ∙ pow-suc α k
 
-pub root-suc : (k : ℕ) → root (suc k) ≡ α ⊙ root k
+root-suc : (k : ℕ) → root (suc k) ≡ α ⊙ root k
 root-suc k = root-power (suc k) ∙ ap (λ (s : F). α ⊙ s) (pow-suc α k ∙ sym (root-power k))
 
 root-add : (first k : ℕ) → root (first + k) ≡ pow α first ⊙ root k

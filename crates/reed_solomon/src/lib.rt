@@ -20,6 +20,12 @@ use field::Gf;
 use packed::Packed;
 use polynomial::SYNDROMES;
 
+// At j: α^(j+1).
+const ROOTS: [u8; 64] = *b"\x02\x04\x08\x10\x20\x40\x80\x1d\x3a\x74\xe8\xcd\x87\x13\x26\x4c\
+    \x98\x2d\x5a\xb4\x75\xea\xc9\x8f\x03\x06\x0c\x18\x30\x60\xc0\x9d\
+    \x27\x4e\x9c\x25\x4a\x94\x35\x6a\xd4\xb5\x77\xee\xc1\x9f\x23\x46\
+    \x8c\x05\x0a\x14\x28\x50\xa0\x5d\xba\x69\xd2\xb9\x6f\xde\xa1\x5f";
+
 // α^(j+1), the point of syndrome j.
 pub fn root(j: usize) -> Gf
     requires { ⌜ j < 48 ⌝ }
@@ -126,58 +132,51 @@ pub fn is_zero(word: &[u8]) -> bool
     bits == 0
 }
 
-// The sixteen roots from root i on, each twice the one before it.
-fn roots(i: usize) -> [u8; 16]
-    requires { ⌜ i < 48 ⌝ }
-    ensures { λ r. ⌜ bytes r ≡ cut 16 (λ j. Root (i + j)) ⌝ }
+// The 64 roots from root 0 on. The table by what it means: no caller sees its entries.
+fn roots() -> [u8; 64]
+    ensures { λ r. ⌜ bytes r ≡ cut 64 Root ⌝ }
 {
-    let mut out = [0u8; 16];
-    let mut x = root(i).0;
+    ROOTS
+}
+
+// A step of Horner's rule at the 32 points from point i on: no table and no branch, so the compiler takes sixteen products at a time. A product is a
+// chain of eight steps that wait for one another, so two of them side by side take hardly longer than one.
+fn horner(x: &[u8], i: usize, v: [u8; 32], s: u8) -> [u8; 32]
+    requires { ⌜ i + 32 ≤ length (now x) ⌝ }
+    ensures { λ r. ⌜ bytes r ≡ cut 32 (λ j. bytes v j ⊙ bytes (now (x .entry)) (i + j) ⊕ of s) ⌝ }
+{
+    let mut out = [0u8; 32];
     let mut j: usize = 0;
-    while j < 16 {
-        out[j] = x;
-        x = kernel::twice(x);
+    while j < 32 {
+        out[j] = kernel::multiply(v[j], x[i + j]) ^ s;
         j += 1;
     }
     out
 }
 
-// A step of Horner's rule at sixteen points: no table and no branch, so sixteen products are taken at a time.
-fn horner(x: [u8; 16], v: [u8; 16], s: u8) -> [u8; 16]
-    ensures { λ r. ⌜ bytes r ≡ cut 16 (λ j. bytes x j ⊙ bytes v j ⊕ of s) ⌝ }
-{
-    let mut out = [0u8; 16];
-    let mut j: usize = 0;
-    while j < 16 {
-        out[j] = kernel::multiply(x[j], v[j]) ^ s;
-        j += 1;
-    }
-    out
-}
-
-// Syndromes i to i + 15.
-fn sixteen(r: &[u8], i: usize) -> [u8; 16]
-    requires { ⌜ i < 48 ⌝ }
+// Syndromes i to i + 31.
+fn block(r: &[u8], i: usize) -> [u8; 32]
+    requires { ⌜ i ≤ 32 ⌝ }
     ensures { λ v. ⌜ Lanes (length (now (r .entry))) (bytes (now (r .entry))) i v ⌝ }
 {
-    let x = roots(i);
-    let mut v = [0u8; 16];
+    let x = roots();
+    let mut v = [0u8; 32];
     let mut p: usize = r.len();
     while p > 0 {
         p -= 1;
-        let next = horner(x, v, r[p]);
+        let next = horner(&x, i, v, r[p]);
         v = next;
     }
     v
 }
 
-// The sixteen that syndrome i belongs to: these, or the next if i begins them.
-fn lanes(r: &[u8], i: usize, v: [u8; 16]) -> [u8; 16]
-    requires { ⌜ (i < 48) × (0 < i % 16 → Lanes (length (now r)) (bytes (now r)) (i - i % 16) v) ⌝ }
-    ensures { λ u. ⌜ Lanes (length (now (r .entry))) (bytes (now (r .entry))) (i - i % 16) u ⌝ }
+// The block that syndrome i belongs to: this one, or the next if i begins it.
+fn lanes(r: &[u8], i: usize, v: [u8; 32]) -> [u8; 32]
+    requires { ⌜ (i < 48) × (0 < i % 32 → Lanes (length (now r)) (bytes (now r)) (i - i % 32) v) ⌝ }
+    ensures { λ u. ⌜ Lanes (length (now (r .entry))) (bytes (now (r .entry))) (i - i % 32) u ⌝ }
 {
-    if i % 16 == 0 {
-        return sixteen(r, i);
+    if i % 32 == 0 {
+        return block(r, i);
     }
     v
 }
@@ -188,11 +187,11 @@ pub fn values(r: &[u8], k: usize) -> [Gf; SYNDROMES]
     ensures { λ s. ⌜ row s ≡ cut k (Syndrome (length (now (r .entry))) (bytes (now (r .entry)))) ⌝ }
 {
     let mut out = [Gf::ZERO; SYNDROMES];
-    let mut v = [0u8; 16];
+    let mut v = [0u8; 32];
     let mut i: usize = 0;
     while i < k {
         let u = lanes(r, i, v);
-        out[i] = Gf(u[i % 16]);
+        out[i] = Gf(u[i % 32]);
         v = u;
         i = i + 1;
     }

@@ -1,5 +1,5 @@
 -- The first j values stand.
-use Prim.Native.Nat.{ℕ, _-_, _≤_}
+use Prim.Native.Nat.{ℕ, _+_, _-_, _≤_}
 use mathlib.Core.Path.{_≡_, sym, ap, ap₂, _∙_}
 use native.Mathlib.Omega.{arith}
 use lib.ListN.{length, length-set, length-replicate}
@@ -11,19 +11,22 @@ use Rattle.reed_solomon.proofs.horner.Statement.{statement}
 use Rattle.reed_solomon.proofs.horner.Tie as tie
 
 abbrev Inv-loop : tie.InvT-loop
-Inv-loop s x v out₀ j₀ out j = (j ≤ 16) × (length out ≡ 16) × (bytes out ≡ cut j (λ j. bytes x j ⊙ bytes v j ⊕ of s))
+Inv-loop x i s v out₀ j₀ out j = (j ≤ 32) × (length out ≡ 32) × (bytes out ≡ cut j (λ j. bytes v j ⊙ bytes x (i + j) ⊕ of s))
 
 abbrev μ-loop : tie.MeasureT-loop
-μ-loop s x v out₀ j₀ out j = 16 - j
+μ-loop x i s v out₀ j₀ out j = 32 - j
 
 loop-holds : tie.Need-loop-holds Inv-loop μ-loop
-loop-holds c = (search needs, length-replicate {A = ℕ} 16 0, read-zeros of 0 of-zero 16 _)
+loop-holds c = (search needs, length-replicate {A = ℕ} 32 0, read-zeros of 0 of-zero 32 _)
 
 array-read-multiply : tie.Need-array-read-multiply Inv-loop μ-loop
 array-read-multiply c = search needs
 
-array-read-multiply-2 : tie.Need-array-read-multiply-2 Inv-loop μ-loop
-array-read-multiply-2 c = search needs
+add-multiply : tie.Need-add-multiply Inv-loop μ-loop
+add-multiply c = search needs
+
+shared-slice-read-multiply : tie.Need-shared-slice-read-multiply Inv-loop μ-loop
+shared-slice-read-multiply c = search needs
 
 multiply-requires : tie.Need-multiply-requires Inv-loop μ-loop
 multiply-requires c κs = search needs
@@ -39,9 +42,10 @@ loop-less c = search needs
 
 loop-again : tie.Need-loop-again Inv-loop μ-loop
 loop-again c =
-    let now = c .before .before .loop in
-    let given = c .before .before .before .args in
-    let product = c .multiply .ensures ∙ sym (ap₂ _⊙_ (read-at of 0 (given .t1) (now .j)) (read-at of 0 (given .t2) (now .j))) in (
+    let now = c .before .before .before .loop in
+    let given = c .before .before .before .before .before .args in
+    let x = given .x .now in
+    let product = c .multiply .ensures ∙ sym (ap₂ _⊙_ (read-at of 0 (given .t3) (now .j)) (read-at of 0 x (given .i + now .j))) in (
       omega arith,
       length-set (now .out) _ _ ∙ now .inv .1,
       read-store of 0 (now .out) (now .j) _ _ (omega arith) (now .inv .2) (of-xor _ _ ∙ ap (λ (t : F). t ⊕ of (given .s)) product),
@@ -50,7 +54,7 @@ loop-again c =
 returns : tie.Need-returns Inv-loop μ-loop
 returns c =
     let end = c .before .loop in
-    let e : end .j ≡ 16 = omega arith in
+    let e : end .j ≡ 32 = omega arith in
     rw e at (end .inv .2)
 
 pub horner-spec : {M : Type 1} → statement M
@@ -61,7 +65,8 @@ horner-spec =
     μ-loop
     loop-holds
     array-read-multiply
-    array-read-multiply-2
+    add-multiply
+    shared-slice-read-multiply
     multiply-requires
     array-write-out
     add-j

@@ -1,4 +1,4 @@
--- The first i syndromes stand, and v holds those of the last sixteen.
+-- The first i syndromes stand, and v holds the block of the last.
 use Prim.Native.Nat.{_+_, _-_, _%_, _≤_, _<_}
 use mathlib.Core.Path.{_≡_, sym, ap, _∙_}
 use native.Mathlib.Omega.{arith}
@@ -17,7 +17,7 @@ abbrev Inv-loop : tie.InvT-loop
 Inv-loop r k out₀ v₀ i₀ out v i =
     (i ≤ k)
     × Filled 48 i (syndrome (length r) (bytes r)) out
-    × (0 < i % 16 → Lanes (length r) (bytes r) (i - i % 16) v)
+    × (0 < i % 32 → Lanes (length r) (bytes r) (i - i % 32) v)
 
 abbrev μ-loop : tie.MeasureT-loop
 μ-loop r k out₀ v₀ i₀ out v i = k - i
@@ -48,12 +48,12 @@ loop-again c =
     let r = c .before .before .before .before .args .r .now in
     let i = now .i in
     let u = c .lanes .result in
-    let e : i - i % 16 + i % 16 ≡ i = omega arith in
-    let d : i % 16 < 16 = omega arith in
-    let here = sym (read-at of 0 u (i % 16)) ∙ c .lanes .ensures .at (i % 16) d ∙ ap (syndrome (length r) (bytes r)) e in (
+    let e : i - i % 32 + i % 32 ≡ i = omega arith in
+    let d : i % 32 < 32 = omega arith in
+    let here = sym (read-at of 0 u (i % 32)) ∙ c .lanes .ensures .at (i % 32) d ∙ ap (syndrome (length r) (bytes r)) e in (
       omega arith,
       filled-more _ (now .inv .1) (omega arith) (val-of _ ∙ here),
-      λ h. let s : i + 1 - (i + 1) % 16 ≡ i - i % 16 = omega arith in rw s (c .lanes .ensures),
+      λ h. let s : i + 1 - (i + 1) % 32 ≡ i - i % 32 = omega arith in rw s (c .lanes .ensures),
     )
 
 returns : tie.Need-returns Inv-loop μ-loop
