@@ -16,7 +16,7 @@ use lib.Bits.{bitXor}
 use lib.Dec.{T, eqb, ltb, eqb→eq, ltb→lt}
 use lib.ListN.{length, getD, set}
 use Rattle.field.specs.Field.{F, 𝟎, 𝟏, α, _⊕_, _⊙_, of, pow, ⊕-group, ⊕-lc, ⊕-zero, zero-⊕, ⊙-zero, one-⊙, ⊙-cancel, ⊙-ring}
-use Rattle.field.specs.Field.{alpha≢zero, of-byte, of-xor, of-one, pow-zero, pow-one, pow-suc, pow-add, power-255, power-nonzero}
+use Rattle.field.specs.Field.{alpha≢zero, of-byte, of-xor, of-one, pow-zero, pow-suc, pow-add, power-255, power-nonzero}
 use Rattle.field.specs.Log.{powerTable, powerTable-at}
 use Rattle.field.specs.Test.{all, all-at, and-both}
 use Rattle.series.specs.Series.{Series, O, K, Z, _⊞_, _⊠_, ⊠-ring, ⊞-at, K-suc, K-⊠-at, Z-⊠-at0, Z-⊠-at, ⊞-⊠, ⊠-zero, head-tail}

@@ -7,7 +7,7 @@
 --   lower row t       row 1: the lower coefficients of the polynomial z^48 + lower row t that the table is for
 --   Multiples row t   t is such a table
 use Prim.Native.Nat.{ℕ, _+_, _-_, _*_, _≤_, _<_}
-use mathlib.Core.Path.{_≡_, refl, _∙_}
+use mathlib.Core.Path.{_≡_, refl}
 use mathlib.Core.List.{List}
 use native.Mathlib.Decide.{decLe}
 use native.Mathlib.Omega.{arith}

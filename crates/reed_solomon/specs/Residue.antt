@@ -18,8 +18,8 @@ use lib.Bits.{bitAnd, bitOr, or-add-and, and-le-l, and-le-r}
 use lib.ListN.{length, getD, take}
 use lib.Seq.{length-take-le}
 use Rattle.field.specs.Field.{F, 𝟎, _⊕_, _⊙_, of, of-zero, of-nonzero, ⊕-group, pow, power-nonzero}
-use Rattle.series.specs.Series.{Series, O, O-at, _⊞_, _⊠_, ⊞-group}
-use Rattle.series.specs.Shift.{zpow, drop, cut, cut-low, cut-unique, cut-drop}
+use Rattle.series.specs.Series.{Series, O, O-at, _⊞_, ⊞-group}
+use Rattle.series.specs.Shift.{drop, cut, cut-low, cut-unique, cut-drop}
 use Rattle.series.specs.Degree.{below, below-cut, below-⊞}
 use Rattle.series.specs.Array.{bytes, read-at, below-read}
 use Rattle.series.specs.Part.{read-take}
@@ -30,7 +30,7 @@ use Rattle.division.specs.Remainder.{remainder, remainder-top}
 use Rattle.multiples.specs.Multiples.{rows, lower}
 use Rattle.generator.specs.Generator.{rest, aligned, below-rest, rest-value}
 use Rattle.generator.specs.Table.{Table}
-use Rattle.reed_solomon.specs.Definition.{root, syndrome, upper, check-symbols, systematic}
+use Rattle.reed_solomon.specs.Definition.{root, syndrome, upper, systematic}
 use Rattle.reed_solomon.specs.Systematic.{roots-distinct, syndrome-is, syndrome-cong, syndrome-⊞, check-symbols-is}
 
 unfoldable pub residue : ℕ → ℕ → ℕ → Series → Series

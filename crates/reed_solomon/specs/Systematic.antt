@@ -1,17 +1,17 @@
 -- Laws of syndromes and of check symbols.
 --
--- Proved: roots are distinct; syndromes depend on the first n symbols and are linear; the systematic word has the check symbols below position k,
--- keeps w's symbols from there on (systematic-low, systematic-data) and has k zero syndromes (systematic-zero); a word is known from its symbols from
+-- Proved: roots are distinct; syndromes depend on the first n symbols and are linear; the systematic word keeps w's symbols from
+-- position k on (systematic-data) and has k zero syndromes (systematic-zero); a word is known from its symbols from
 -- position k on and k syndromes (systematic-unique); check symbols are known by their values at the roots (check-symbols-is).
 use Prim.Native.Nat.{ℕ, _+_, _-_, _≤_, _<_}
 use mathlib.Core.Path.{_≡_, refl, sym, _∙_, ap, ap₂}
 use mathlib.Core.Logic.{by-cases}
 use native.Mathlib.Omega.{arith}
 use native.Mathlib.Decide.{decLe}
-use Rattle.field.specs.Field.{F, 𝟎, _⊕_, _⊙_, zero-⊕, ⊕-zero, ⊕-self, ⊕-cancel, pow, power-inj}
+use Rattle.field.specs.Field.{F, 𝟎, _⊕_, _⊙_, zero-⊕, ⊕-self, ⊕-cancel, pow, power-inj}
 use Rattle.series.specs.Sum.{sum}
 use Rattle.series.specs.Series.{Series, K, _⊞_, _⊠_, ⊞-at}
-use Rattle.series.specs.Shift.{drop, zpow-at, zpow-low, drop-at}
+use Rattle.series.specs.Shift.{drop, zpow-at, drop-at}
 use Rattle.series.specs.Degree.{below}
 use Rattle.series.specs.Value.{value, value-cong, value-more, value-split, value-⊞, value-K-⊠, value-sum}
 use Rattle.series.specs.Interpolation.{Distinct, below-interpolate, interpolate-at, interpolate-unique, interpolate-is}
@@ -49,11 +49,7 @@ syndrome-sum m n h w j = value-sum m n h w (root j)
 
 -- ---- the systematic word
 
-pub upper-low : (k : ℕ) (w : Series) (i : ℕ) → i < k → upper k w i ≡ 𝟎
-unfolding upper
-upper-low k w i h = zpow-low k (drop k w) i h
-
-pub upper-high : (k : ℕ) (w : Series) (i : ℕ) → k ≤ i → upper k w i ≡ w i
+upper-high : (k : ℕ) (w : Series) (i : ℕ) → k ≤ i → upper k w i ≡ w i
 unfolding upper
 upper-high k w i h = let e : i ≡ k + (i - k) = omega arith in rw e (zpow-at k (drop k w) (i - k) ∙ drop-at k w (i - k))
 
@@ -61,12 +57,9 @@ pub below-check-symbols : (n k : ℕ) (w : Series) → below k (check-symbols n 
 unfolding check-symbols
 below-check-symbols n k w = below-interpolate k root _
 
-pub systematic-at : (n k : ℕ) (w : Series) (i : ℕ) → systematic n k w i ≡ check-symbols n k w i ⊕ upper k w i
+systematic-at : (n k : ℕ) (w : Series) (i : ℕ) → systematic n k w i ≡ check-symbols n k w i ⊕ upper k w i
 unfolding systematic
 systematic-at n k w i = ⊞-at _ _ i
-
-pub systematic-low : (n k : ℕ) (w : Series) (i : ℕ) → i < k → systematic n k w i ≡ check-symbols n k w i
-systematic-low n k w i h = systematic-at n k w i ∙ ap (λ t. check-symbols n k w i ⊕ t) (upper-low k w i h) ∙ ⊕-zero _
 
 pub systematic-data : (n k : ℕ) (w : Series) (i : ℕ) → k ≤ i → systematic n k w i ≡ w i
 systematic-data n k w i h = systematic-at n k w i ∙ ap₂ _⊕_ (below-check-symbols n k w i h) (upper-high k w i h) ∙ zero-⊕ (w i)

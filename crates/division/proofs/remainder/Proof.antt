@@ -1,6 +1,4 @@
 -- Narrow or wide by the degree.
-use Prim.Native.Nat.{_<_}
-use mathlib.Core.Path.{sym}
 use native.Mathlib.Omega.{arith}
 use Rattle.multiples.specs.Multiples.{rows-narrow, rows-wide}
 use Rattle.division.proofs.remainder.Statement.{statement}

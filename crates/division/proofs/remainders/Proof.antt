@@ -1,8 +1,6 @@
 -- Four narrow words a turn, or two pairs of wide ones.
-use Prim.Native.Nat.{_≤_}
-use mathlib.Core.Path.{_≡_, sym, _∙_}
+use mathlib.Core.Path.{sym, _∙_}
 use native.Mathlib.Omega.{arith}
-use lib.ListN.{length}
 use Rattle.multiples.specs.Multiples.{rows-narrow, rows-wide}
 use Rattle.division.proofs.remainders.Statement.{statement}
 use Rattle.division.proofs.remainders.Tie as tie

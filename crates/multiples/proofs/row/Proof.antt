@@ -1,6 +1,5 @@
 -- Narrow or wide by the degree.
-use Prim.Native.Nat.{_≤_}
-use mathlib.Core.Path.{_≡_, sym, ap, _∙_}
+use mathlib.Core.Path.{sym, ap, _∙_}
 use native.Mathlib.Omega.{arith}
 use Rattle.multiples.specs.Multiples.{Rows, rows-narrow, rows-wide}
 use borrow.Author.Needs.{needs}

@@ -1,27 +1,37 @@
--- The first i syndromes stand.
-use Prim.Native.Nat.{_-_, _≤_}
-use mathlib.Core.Path.{_≡_, ap, _∙_}
+-- The first i syndromes stand, and v holds the block of the last.
+use Prim.Native.Nat.{_+_, _-_, _%_, _≤_, _<_}
+use mathlib.Core.Path.{_≡_, sym, ap, _∙_}
 use native.Mathlib.Omega.{arith}
 use lib.ListN.{length}
+use Rattle.field.specs.Field.{of, val-of}
 use Rattle.series.specs.Shift.{cut}
-use Rattle.series.specs.Array.{bytes, Filled, filled-none, filled-more}
+use Rattle.series.specs.Array.{bytes, read-at, Filled, filled-none, filled-more}
 use Rattle.polynomial.specs.Polynomial.{row-values}
 use Rattle.reed_solomon.specs.Definition.{syndrome}
+use Rattle.reed_solomon.specs.Lanes.{Lanes}
 use borrow.Author.Needs.{needs}
 use Rattle.reed_solomon.proofs.values.Statement.{statement}
 use Rattle.reed_solomon.proofs.values.Tie as tie
 
 abbrev Inv-loop : tie.InvT-loop
-Inv-loop word k out₀ i₀ out i = (i ≤ k) × Filled 48 i (syndrome (length word) (bytes word)) out
+Inv-loop r k out₀ v₀ i₀ out v i =
+    (i ≤ k)
+    × Filled 48 i (syndrome (length r) (bytes r)) out
+    × (0 < i % 32 → Lanes (length r) (bytes r) (i - i % 32) v)
 
 abbrev μ-loop : tie.MeasureT-loop
-μ-loop word k out₀ i₀ out i = k - i
+μ-loop r k out₀ v₀ i₀ out v i = k - i
 
 loop-holds : tie.Need-loop-holds Inv-loop μ-loop
-loop-holds c = (search needs, filled-none 48 _)
+loop-holds c = (search needs, filled-none 48 _, λ h. absurd (omega arith))
 
-syndrome-requires : tie.Need-syndrome-requires Inv-loop μ-loop
-syndrome-requires c κs = search needs
+lanes-requires : tie.Need-lanes-requires Inv-loop μ-loop
+lanes-requires c κs =
+    let now = c .before .loop in
+    (omega (arith, c .before .before .before .pre, c .loop-test .taken), now .inv .2)
+
+array-read-t13 : tie.Need-array-read-t13 Inv-loop μ-loop
+array-read-t13 c = omega arith
 
 array-set-from-out : tie.Need-array-set-from-out Inv-loop μ-loop
 array-set-from-out c = search needs
@@ -33,13 +43,25 @@ loop-less : tie.Need-loop-less Inv-loop μ-loop
 loop-less c = search needs
 
 loop-again : tie.Need-loop-again Inv-loop μ-loop
-loop-again c = (omega arith, filled-more _ (c .before .before .loop .inv .1) (omega arith) (c .syndrome .ensures))
+loop-again c =
+    let now = c .before .before .loop in
+    let r = c .before .before .before .before .args .r .now in
+    let i = now .i in
+    let u = c .lanes .result in
+    let e : i - i % 32 + i % 32 ≡ i = omega arith in
+    let d : i % 32 < 32 = omega arith in
+    let here = sym (read-at of 0 u (i % 32)) ∙ c .lanes .ensures .at (i % 32) d ∙ ap (syndrome (length r) (bytes r)) e in (
+      omega arith,
+      filled-more _ (now .inv .1) (omega arith) (val-of _ ∙ here),
+      λ h. let s : i + 1 - (i + 1) % 32 ≡ i - i % 32 = omega arith in rw s (c .lanes .ensures),
+    )
 
 returns : tie.Need-returns Inv-loop μ-loop
 returns c =
     let end = c .before .loop in
-    let word = c .before .before .before .args .r .now in
-    let e : end .i ≡ c .before .before .before .args .k = omega (arith, end .inv .0) in
+    let given = c .before .before .before .args in
+    let word = given .r .now in
+    let e : end .i ≡ given .k = omega (arith, end .inv .0) in
     row-values _ (end .inv .1 .long) ∙ end .inv .1 .is ∙ ap (λ i. cut i (syndrome (length word) (bytes word))) e
 
 pub values-spec : {M : Type 1} → statement M
@@ -49,7 +71,8 @@ values-spec =
     Inv-loop
     μ-loop
     loop-holds
-    syndrome-requires
+    lanes-requires
+    array-read-t13
     array-set-from-out
     add-i
     loop-less
