@@ -8,10 +8,9 @@ ghost use Rattle.series.specs.Series.{K, _⊞_, _⊠_};
 ghost use Rattle.series.specs.Shift.{cut};
 ghost use Rattle.series.specs.Array.{bytes};
 ghost use Rattle.polynomial.specs.Polynomial.{row as Row};
-ghost use Rattle.reed_solomon.specs.Definition.{syndrome};
 ghost use Rattle.code.specs.Definition.{subword};
 ghost use Rattle.code.specs.Check.{Fits, table as Table};
-ghost use Rattle.staged.specs.Definition.{Progress, window as Window, extend as Extend};
+ghost use Rattle.staged.specs.Definition.{Progress, extend as Extend};
 ghost use Rattle.lagrange.specs.Definition.{flag};
 ghost use Rattle.extension.specs.Definition.{merged, extended, Seen};
 use code::POSITIONS;
@@ -59,20 +58,6 @@ fn merge(p: Profile, pending: [bool; SUBWORDS], block: &[u8], i: usize) -> [u8; 
     word
 }
 
-// The row with syndromes `from` to `to` - 1 of the word.
-fn window(word: &[u8], from: usize, to: usize, row: [Gf; SYNDROMES]) -> [Gf; SYNDROMES]
-    requires { ⌜ to ≤ 48 ⌝ }
-    ensures { λ r. ⌜ Row r ≡ Window from to (syndrome (length (now (word .entry))) (bytes (now (word .entry)))) (Row row) ⌝ }
-{
-    let mut out = row;
-    let mut j = from;
-    while j < to {
-        out[j] = reed_solomon::syndrome(word, j);
-        j = j + 1;
-    }
-    out
-}
-
 // The row of subword i after the round: a settled subword's stays.
 fn extend_row(
     p: Profile,
@@ -91,7 +76,7 @@ fn extend_row(
     }
     let n = p.length as usize;
     let word = merge(p, pending, block, i);
-    window(&word[..n], from, to, row)
+    window::window(&word[..n], from, to, row)
 }
 
 // The rows of the unsettled subwords go on with syndromes `from` to `to` - 1, in the block as corrected so far.
