@@ -3,27 +3,26 @@
 --   partly r f t     the rows f 0, .., f (r − 1), then those of t
 --
 -- Proved: for a valid profile the new syndromes of an unsettled subword are those of its merged word (fresh-merged), so the extended rows are the
--- round's (extend-is). A loop over subwords makes `partly` (partly-none, partly-more), one over syndromes a window (row-window, window-end); what is
--- done for one subword makes `extended` (extended-no, extended-word).
+-- round's (extend-is). A loop over subwords makes `partly` (partly-none, partly-more); what is done for one subword makes
+-- `extended` (extended-no, extended-word).
 use Prim.Native.Nat.{ℕ, _+_, _-_, _≤_, _<_}
 use mathlib.Core.Path.{_≡_, refl, sym, ap, ap₂, _∙_, fun-ext}
 use mathlib.Core.Bool.{Bool, true, false, cond}
-use mathlib.Core.Logic.{by-cases}
 use mathlib.Core.List.{List, []}
-use native.Mathlib.Decide.{decLt, decLe, ℕ-discrete}
+use native.Mathlib.Decide.{decLt, ℕ-discrete}
 use native.Mathlib.Nat.{zero-add}
 use native.Mathlib.Omega.{arith}
 use lib.Dec.{ltb}
-use lib.ListN.{length, set, take, length-set}
+use lib.ListN.{length, set, take}
 use lib.Seq.{getD-set-same, getD-set-other}
 use borrow.Author.Tests.{lt-ltb, le-ltb}
 use Rattle.field.specs.declared.Gf.{Gf}
-use Rattle.field.specs.Field.{_⊙_, val}
+use Rattle.field.specs.Field.{_⊙_}
 use Rattle.series.specs.Sum.{sum, sum-cong}
 use Rattle.series.specs.Series.{Series}
 use Rattle.series.specs.Shift.{cut}
-use Rattle.series.specs.Array.{bytes, values, read-set-same, read-set-other}
-use Rattle.polynomial.specs.Polynomial.{row, row-values}
+use Rattle.series.specs.Array.{bytes}
+use Rattle.polynomial.specs.Polynomial.{row}
 use Rattle.profile.specs.declared.Profile.{Profile}
 use Rattle.profile.specs.Valid.{Valid}
 use Rattle.reed_solomon.specs.Definition.{syndrome}
@@ -32,9 +31,8 @@ use Rattle.code.specs.Definition.{subword}
 use Rattle.code.specs.Block.{syndrome-nested}
 use Rattle.code.specs.Combined.{combined}
 use Rattle.code.specs.Check.{table, prefix-syndrome}
-use Rattle.staged.specs.Definition.{put, Progress, open?, unsettled, fresh, window, extend}
-use Rattle.staged.specs.Stage.{put-same, put-other}
-use Rattle.staged.specs.Round.{window-low, window-high, window-none, window-more, extend-past, system-solves}
+use Rattle.staged.specs.Definition.{Progress, open?, unsettled, fresh, window, extend}
+use Rattle.staged.specs.Round.{extend-past, system-solves}
 use Rattle.lagrange.specs.Definition.{flag, lagrange}
 use Rattle.lagrange.specs.Lagrange.{lagrange-solves, lagrange-cong}
 use Rattle.extension.specs.Definition.{merged, extended, Seen}
@@ -91,34 +89,6 @@ partly-more out i r f t h e q = fun-ext (λ a. go a (ℕ-discrete a i) (decLt a 
     go a (yes s) l = rw s (ap row (getD-set-same out i r [] h) ∙ q ∙ sym (partly-low (i + 1) f t i (omega arith)))
     go a (no s) (yes l) = old a s ∙ partly-low i f t a l ∙ sym (partly-low (i + 1) f t a (omega arith))
     go a (no s) (no l) = old a s ∙ partly-high i f t a (omega arith) ∙ sym (partly-high (i + 1) f t a (omega arith))
-
--- ---- syndromes, one after the other
-
-row-put : (l : List Gf) (j : ℕ) (v : Gf) → length l ≡ 48 → j < 48 → row (set l j v) ≡ put j (val v) (row l)
-row-put l j v n h =
-    row-values (set l j v) (length-set l j v ∙ n)
-    ∙ fun-ext (λ k. go k (ℕ-discrete k j))
-    ∙ ap (put j (val v)) (sym (row-values l n))
-  where
-    go : (k : ℕ) → Dec (k ≡ j) → values (set l j v) k ≡ put j (val v) (values l) k
-    go k (yes e) = rw e (read-set-same val _ l j v (omega arith) ∙ sym (put-same j (val v) (values l)))
-    go k (no e) = read-set-other val _ l j k v e ∙ sym (put-other j (val v) (values l) k e)
-
-pub row-window : (l : List Gf) (a j : ℕ) (v : Gf) (g f : Series) → length l ≡ 48 → j < 48 → a ≤ j → val v ≡ g j → row l ≡ window a j g f
-    → row (set l j v) ≡ window a (j + 1) g f
-row-window l a j v g f n h le e is = row-put l j v n h ∙ ap₂ (put j) e is ∙ sym (window-more a j g f le)
-
--- the loop's last j is b, or a if b is less
-pub window-end : (a b j : ℕ) (g f : Series) → a ≤ j → b ≤ j → j ≤ b + (a - b) → window a j g f ≡ window a b g f
-window-end a b j g f h l most = go (decLe a b)
-  where
-    go : Dec (a ≤ b) → window a j g f ≡ window a b g f
-    go (yes d) = let e : j ≡ b = omega arith in ap (λ k. window a k g f) e
-    go (no d) =
-        let e : j ≡ a = omega arith in
-        ap (λ k. window a k g f) e
-        ∙ window-none a g f
-        ∙ sym (fun-ext (λ k. by-cases (decLt k a) (window-low a b g f k) (λ q. window-high a b g f k (omega arith))))
 
 -- ---- the rows of a round
 

@@ -70,11 +70,11 @@ unfolding product
 product-suc n b k = refl
 
 -- a loop goes on
-pub product-next : (n : ℕ) (b : ℕ → Bool) (k : ℕ) (x u v r : F) → x ≡ pow α k → u ≡ product n b k → v ≡ cond (b n) (x ⊕ pow α n) 𝟏 → r ≡ u ⊙ v
+pub product-next : (n : ℕ) (b : ℕ → Bool) (k : ℕ) (x u r : F) → x ≡ pow α k → u ≡ product n b k → r ≡ u ⊙ cond (b n) (x ⊕ pow α n) 𝟏
     → r ≡ product (n + 1) b k
-product-next n b k x u v r ex eu ev er =
+product-next n b k x u r ex eu er =
     er
-    ∙ ap₂ _⊙_ eu (ev ∙ ap (λ x. cond (b n) (x ⊕ pow α n) 𝟏) ex)
+    ∙ ap₂ (λ u x. u ⊙ cond (b n) (x ⊕ pow α n) 𝟏) eu ex
     ∙ sym (product-suc n b k)
     ∙ ap (λ n. product n b k) (sym (add-one n))
 

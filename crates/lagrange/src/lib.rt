@@ -2,7 +2,7 @@
 ghost use Prim.Native.Nat.{suc, _≤_, _<_};
 ghost use mathlib.Core.Path.{_≡_};
 ghost use mathlib.Core.Bool.{cond};
-ghost use Rattle.field.specs.Field.{𝟏, α, _⊕_, pow, val};
+ghost use Rattle.field.specs.Field.{𝟏, α, _⊕_, _⊙_, pow, val};
 ghost use Rattle.staged.specs.Definition.{count};
 ghost use Rattle.lagrange.specs.Definition.{flag, others, product as Product, lagrange as Lagrange};
 use code::SUBWORDS;
@@ -36,18 +36,18 @@ pub fn unsettled(p: Profile, pending: [bool; SUBWORDS]) -> usize
     b
 }
 
-// x + α^j, if subword j is unsettled and not subword i; else one.
-fn term(pending: [bool; SUBWORDS], i: usize, j: usize, x: Gf) -> Gf
+// b times x + α^j, if subword j is unsettled and not subword i; else b, with no product.
+fn times(b: Gf, pending: [bool; SUBWORDS], i: usize, j: usize, x: Gf) -> Gf
     requires { ⌜ j < 8 ⌝ }
-    ensures { λ r. ⌜ val r ≡ cond (others (flag pending) i j) (val x ⊕ pow α j) 𝟏 ⌝ }
+    ensures { λ r. ⌜ val r ≡ val b ⊙ cond (others (flag pending) i j) (val x ⊕ pow α j) 𝟏 ⌝ }
 {
     if j == i {
-        return Gf::ONE;
+        return b;
     }
     if pending[j] {
-        return x.sum(Exponent(j).power());
+        return kernel::product(b, x.sum(Exponent(j).power()));
     }
-    Gf::ONE
+    b
 }
 
 // The product of α^k + α^j over the unsettled subwords j other than i.
@@ -60,7 +60,7 @@ fn product(p: Profile, pending: [bool; SUBWORDS], i: usize, k: usize) -> Gf
     let mut b = Gf::ONE;
     let mut j: usize = 0;
     while j < m {
-        b = b.product(term(pending, i, j, x));
+        b = times(b, pending, i, j, x);
         j = j + 1;
     }
     b
@@ -72,5 +72,5 @@ pub fn lagrange(p: Profile, pending: [bool; SUBWORDS], i: usize, k: usize) -> Gf
     ensures { λ r. ⌜ val r ≡ Lagrange (p .subwords) (flag pending) i k ⌝ }
 {
     let d = product(p, pending, i, i).inverse();
-    product(p, pending, i, k).product(d)
+    kernel::product(product(p, pending, i, k), d)
 }

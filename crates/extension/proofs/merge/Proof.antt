@@ -28,11 +28,11 @@ loop-holds c = (search needs, refl, combined-none _ _ _ 0 0 255 refl)
 lagrange-requires : tie.Need-lagrange-requires Inv-loop μ-loop
 lagrange-requires c κs = c .before .before .before .before .pre .valid .subwords .1
 
-slice-aggregate-add-subword : tie.Need-slice-aggregate-add-subword Inv-loop μ-loop
-slice-aggregate-add-subword c = search needs
+slice-aggregate-add-multiple : tie.Need-slice-aggregate-add-multiple Inv-loop μ-loop
+slice-aggregate-add-multiple c = search needs
 
-add-subword-requires : tie.Need-add-subword-requires Inv-loop μ-loop
-add-subword-requires c κs =
+add-multiple-requires : tie.Need-add-multiple-requires Inv-loop μ-loop
+add-multiple-requires c κs =
     let given = c .before .before .before .before .before .before in
     (given .pre, c .before .before .loop-test .taken, omega (arith, given .pre .valid .length, c .before .before .before .loop .inv .1))
 
@@ -48,7 +48,7 @@ loop-again c =
     let factor = c .before .before .before .lagrange .ensures in (
       omega (arith, c .before .before .before .before .loop-test .taken),
       omega (arith, c .word2 .given, now .inv .1),
-      combined-more _ _ _ 0 (now .k) _ _ _ (omega arith) factor (now .inv .2) (c .before .add-subword .ensures),
+      combined-more _ _ _ 0 (now .k) _ _ _ (omega arith) factor (now .inv .2) (c .before .add-multiple .ensures),
     )
 
 returns : tie.Need-returns Inv-loop μ-loop
@@ -69,8 +69,8 @@ merge-spec =
     cast-m
     loop-holds
     lagrange-requires
-    slice-aggregate-add-subword
-    add-subword-requires
+    slice-aggregate-add-multiple
+    add-multiple-requires
     add-k
     loop-less
     loop-again

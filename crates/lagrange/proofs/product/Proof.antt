@@ -24,11 +24,8 @@ power-requires c κs = search needs
 loop-holds : tie.Need-loop-holds Inv-loop μ-loop
 loop-holds c = (search needs, val-one ∙ sym (product-none _ _))
 
-term-requires : tie.Need-term-requires Inv-loop μ-loop
-term-requires c κs = search needs
-
-product-requires : tie.Need-product-requires Inv-loop μ-loop
-product-requires c κs = search needs
+times-requires : tie.Need-times-requires Inv-loop μ-loop
+times-requires c κs = search needs
 
 add-j : tie.Need-add-j Inv-loop μ-loop
 add-j c = search needs
@@ -38,11 +35,11 @@ loop-less c = search needs
 
 loop-again : tie.Need-loop-again Inv-loop μ-loop
 loop-again c =
-    let now = c .before .before .before .loop in
-    let start = c .before .before .before .before in
+    let now = c .before .before .loop in
+    let start = c .before .before .before in
     let given = start .before .before .args in
     let b = others (flag (given .pending)) (given .i) in
-    (omega arith, product-next (now .j) b _ _ _ _ _ (start .power .ensures) (now .inv .1) (c .before .term .ensures) (c .product .ensures))
+    (omega arith, product-next (now .j) b _ _ _ _ (start .power .ensures) (now .inv .1) (c .times .ensures))
 
 returns : tie.Need-returns Inv-loop μ-loop
 returns c =
@@ -54,4 +51,4 @@ returns c =
 pub product-spec : {M : Type 1} → statement M
 product-spec =
     tie.close
-    (tie.spec Inv-loop μ-loop cast-m power-requires loop-holds term-requires product-requires add-j loop-less loop-again returns)
+    (tie.spec Inv-loop μ-loop cast-m power-requires loop-holds times-requires add-j loop-less loop-again returns)
