@@ -2,7 +2,7 @@
 --
 --   Put a x l e m    the text x was written to the array l from a on: it ends at e, and the array is m now, with the bytes behind the text as they were
 --
--- Proved: what two texts come to that are written one after the other (put-then), what a store (put-one) and a copy (put-all) come to, what a line is that
+-- Proved: what two texts come to that are written one after the other (put-then, put-next), what a store (put-one) and a copy (put-all) come to, what a line is that
 -- was written from 0 on (put-line); the digits of a number (decimal-one, decimal-more), and that a number below 2^16 has at most five (decimal-short); what is
 -- written digit by digit (put-low, put-high).
 use Prim.Native.Nat.{ℕ, zero, suc, _+_, _*_, _/_, _%_, _≤_, _<_}
@@ -36,6 +36,9 @@ put-then {a = a} {e = e} {b = b} {x = x} {y = y} {l = l} {m = m} {k = k} p q = r
       ∙ drop-drop (length y) e l
       ∙ ap (λ (n : ℕ). drop n l) (sym (q .end));
 }
+
+pub put-next : {a e b : ℕ} {x l m k : List ℕ} (y z : List ℕ) → Put a x l e m → Put e (y ++ z) m b k → Put a ((x ++ y) ++ z) l b k
+put-next {x = x} y z p q = rw (append-assoc x y z) (put-then p q)
 
 pub put-one : (a d : ℕ) (l : List ℕ) → a < length l → Put a (d ∷ []) l (a + 1) (set l a d)
 put-one a d l h = record {

@@ -1,6 +1,6 @@
 // The lines of the printed list, each written into the first bytes of an array that is lent. What the promises speak of stands in specs/Definition.antt.
 ghost use Prim.Native.Nat.{_+_, _≤_, _<_};
-ghost use mathlib.Core.List.{[], _∷_};
+ghost use mathlib.Core.List.{[], _∷_, _++_};
 ghost use lib.ListN.{length};
 ghost use Rattle.listing.specs.Definition.{glyph, decimal, blocks-line, ok-line, refused-line, card-line, Printed};
 ghost use Rattle.listing.specs.Laws.{Put};
@@ -42,47 +42,41 @@ fn digits(line: &mut [u8], at: usize, n: u16) -> usize
     digit(line, end, (n % 10) as u8)
 }
 
-// Writes a number, which has at most five digits.
-fn number(line: &mut [u8], at: usize, n: u16) -> usize
-    requires { ⌜ at + 5 ≤ length (now line) ⌝ }
-    ensures text { λ r. ⌜ Put at (decimal n) (now (line .entry)) r (now (line .exit)) ⌝ }
-    ensures short { λ r. ⌜ r ≤ at + 5 ⌝ }
+// Writes a number, which has at most five digits, and a text behind it.
+fn field(line: &mut [u8], at: usize, n: u16, text: &[u8]) -> usize
+    requires { ⌜ at + 5 + length (now text) ≤ length (now line) ⌝ }
+    ensures text { λ r. ⌜ Put at (decimal n ++ now (text .entry)) (now (line .entry)) r (now (line .exit)) ⌝ }
+    ensures short { λ r. ⌜ r ≤ at + 5 + length (now (text .entry)) ⌝ }
 {
-    digits(line, at, n)
+    let end = digits(line, at, n);
+    put(line, end, text)
 }
 
 pub fn blocks(n: u16, line: &mut [u8; LINE]) -> usize
     ensures { λ r. ⌜ Printed (blocks-line n) (now (line .entry)) r (now (line .exit)) ⌝ }
 {
     let a = put(line, 0, b"blocks ");
-    let b = number(line, a, n);
-    put(line, b, b"\n")
+    field(line, a, n, b"\n")
 }
 
 pub fn ok(index: u16, last: u8, changed: u16, line: &mut [u8; LINE]) -> usize
     ensures { λ r. ⌜ Printed (ok-line index last changed) (now (line .entry)) r (now (line .exit)) ⌝ }
 {
-    let a = number(line, 0, index);
-    let b = put(line, a, b" ok ");
-    let c = number(line, b, last as u16);
-    let d = put(line, c, b" ");
-    let e = number(line, d, changed);
-    put(line, e, b"\n")
+    let a = field(line, 0, index, b" ok ");
+    let b = field(line, a, last as u16, b" ");
+    field(line, b, changed, b"\n")
 }
 
 pub fn refused(index: u16, q: u8, line: &mut [u8; LINE]) -> usize
     ensures { λ r. ⌜ Printed (refused-line index q) (now (line .entry)) r (now (line .exit)) ⌝ }
 {
-    let a = number(line, 0, index);
-    let b = put(line, a, b" refused ");
-    let c = number(line, b, q as u16);
-    put(line, c, b"\n")
+    let a = field(line, 0, index, b" refused ");
+    field(line, a, q as u16, b"\n")
 }
 
 pub fn card(q: u8, line: &mut [u8; LINE]) -> usize
     ensures { λ r. ⌜ Printed (card-line q) (now (line .entry)) r (now (line .exit)) ⌝ }
 {
-    let a = put(line, 0, b"card refused ");
-    let b = number(line, a, q as u16);
-    put(line, b, b"\n")
+    let end = put(line, 0, b"card refused ");
+    field(line, end, q as u16, b"\n")
 }

@@ -3,10 +3,10 @@
 --   Follows x a d    the step x leads to a section that a card can lead to; and a, what was to be printed, is the text of x, and what is printed for the rest d
 --
 -- Proved: every step of a section that a card can lead to does so (follows).
-use Prim.Native.Nat.{ℕ, zero, suc, _+_, _-_, _*_, _≤_, _<_}
-use mathlib.Core.Path.{_≡_, refl, sym, ap, ap₂, _∙_, subst, subst⁻¹}
+use Prim.Native.Nat.{ℕ, zero, suc, _+_, _-_, _≤_, _<_}
+use mathlib.Core.Path.{_≡_, refl, sym, ap, ap₂, _∙_, subst⁻¹}
 use mathlib.Core.Logic.{by-cases}
-use mathlib.Core.Bool.{Bool, true, false, cond, _&&_, true≢false, and-eq-true-iff}
+use mathlib.Core.Bool.{Bool, true, false, cond, and-eq-true-iff}
 use mathlib.Core.List.{List, [], _∷_, _++_, append-nil}
 use native.Mathlib.Nat.{sub-zero}
 use native.Mathlib.Decide.{decLt}
@@ -23,11 +23,11 @@ use Rattle.profile.specs.Definition.{profile-of, number-of, block-size}
 use Rattle.listing.specs.Definition.{blocks-line, card-line}
 use Rattle.section.specs.declared.Section.{Section}
 use Rattle.section.specs.declared.Section.the-variants.{Size, Bytes, Count, Block, End, Over}
-use Rattle.section.specs.Definition.{accepts, good, known, size, over, left, from, Step, silent, refusal}
+use Rattle.section.specs.Definition.{accepts, good, size, from, Step, silent, refusal}
 use Rattle.section.specs.Laws.{profile-accepts}
 use Rattle.heading.specs.Definition.{size-step, profile-step, count-step}
 use Rattle.block_line.specs.Definition.{text, block-line}
-use Rattle.printed.specs.Definition.{section, end, blocks, count-of, numbered, judged, sized, profiled}
+use Rattle.printed.specs.Definition.{blocks, count-of, judged, profiled}
 use Rattle.printed.specs.Turn.{whole, cut, step, after}
 
 pub record Follows (x : Step) (a d : List ℕ) : Type 0 where

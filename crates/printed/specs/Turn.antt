@@ -7,7 +7,7 @@
 --   rest s c         .. nothing if no card leads to s
 --   Turns s y l t m  the turn t was given y where s comes next, the line being l before it and m after it: it takes the step of s (of Over, if no card leads to s);
 --                    and for every card of which y is next, what was to be printed is what t printed, and what is to be printed after it
-use Prim.Native.Nat.{ℕ, suc, _+_, _-_, _≤_, _<_}
+use Prim.Native.Nat.{ℕ, _+_, _-_, _≤_, _<_}
 use mathlib.Core.Path.{_≡_}
 use mathlib.Core.Bool.{false, cond}
 use mathlib.Core.List.{List, [], _++_}

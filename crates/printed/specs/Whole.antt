@@ -16,7 +16,7 @@ use lib.Seq.{take-at}
 use Rattle.section.specs.declared.Section.{Section}
 use Rattle.section.specs.declared.Section.the-variants.{Size, Over}
 use Rattle.section.specs.declared.Turn.{Turn}
-use Rattle.section.specs.Definition.{good, known, size, wanted, left, Takes}
+use Rattle.section.specs.Definition.{good, known, size, wanted, Takes}
 use Rattle.printed.specs.Definition.{printed}
 use Rattle.printed.specs.Turn.{whole, cut, step, after, rest, Turns}
 use Rattle.printed.specs.Follows.{follows}

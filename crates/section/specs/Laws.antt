@@ -2,8 +2,8 @@
 --
 --   Judges s b    b says whether a card can lead to the section s, which then has at most 2040 bytes
 --
--- Proved: a profile that is accepted, n being a byte, is valid (accepts-valid), and its blocks have at most 2040 bytes (accepted-yes); a section that is judged is
--- known (known-yes), or Over takes its place (known-no); a turn that prints nothing (takes-silent).
+-- Proved: a profile that is accepted, n being a byte, is valid (accepts-valid), and its blocks have at most 2040 bytes (accepted-yes); the profile of bytes that
+-- are accepted is (profile-accepts); a section that is judged is known (known-yes), or Over takes its place (known-no); a turn that prints nothing (takes-silent).
 use Prim.Native.Nat.{ℕ, _≤_}
 use mathlib.Core.Path.{_≡_, refl, sym, ap, _∙_, subst, subst⁻¹}
 use mathlib.Core.Bool.{Bool, true, false, cond, true≢false}

@@ -1,12 +1,10 @@
 -- A block, or nothing.
-use Prim.Native.Nat.{_≤_}
-use mathlib.Core.Path.{_≡_, refl, sym, ap, _∙_}
-use mathlib.Core.Bool.{cond}
+use mathlib.Core.Path.{_≡_, refl, sym, _∙_}
 use native.Mathlib.Omega.{arith}
 use lib.ListN.{length}
 use lib.Seq.{length-take-le}
 use Rattle.code.specs.Check.{inside}
-use Rattle.block_line.specs.Laws.{printed-as, fit}
+use Rattle.block_line.specs.Laws.{fit}
 use borrow.Author.Needs.{needs}
 use Rattle.block_line.proofs.print.Statement.{statement}
 use Rattle.block_line.proofs.print.Tie as tie

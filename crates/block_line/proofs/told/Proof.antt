@@ -1,5 +1,5 @@
 -- Accepted, or refused.
-use mathlib.Core.Path.{sym, ap, ap₂, _∙_}
+use mathlib.Core.Path.{sym, ap}
 use Rattle.block_line.specs.Definition.{told}
 use Rattle.block_line.specs.Laws.{printed-as}
 use borrow.Author.Needs.{needs}

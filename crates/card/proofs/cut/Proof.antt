@@ -1,5 +1,5 @@
 -- Nothing is missing, or refused.
-use mathlib.Core.Path.{sym, ap, _∙_}
+use mathlib.Core.Path.{sym, _∙_}
 use Rattle.section.specs.Laws.{takes-silent}
 use borrow.Author.Needs.{needs}
 use Rattle.card.proofs.cut.Statement.{statement}

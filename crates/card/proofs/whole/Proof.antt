@@ -3,7 +3,6 @@ use mathlib.Core.Path.{sym, ap, _∙_}
 use mathlib.Core.Bool.{and-eq-true-iff}
 use native.Mathlib.Omega.{arith}
 use borrow.Author.Tests.{ltb-true}
-use lib.Dec.{ltb}
 use Rattle.section.specs.Definition.{good, size}
 use Rattle.section.specs.Laws.{takes-silent, takes-as}
 use Rattle.printed.specs.Turn.{whole}

@@ -1,5 +1,6 @@
--- Three texts, one after the other.
-use Rattle.listing.specs.Laws.{put-then, put-line}
+-- A text, and a number with its text.
+use Rattle.listing.specs.Definition.{decimal, ascii}
+use Rattle.listing.specs.Laws.{put-next, put-line}
 use borrow.Author.Needs.{needs}
 use Rattle.listing.proofs.card.Statement.{statement}
 use Rattle.listing.proofs.card.Tie as tie
@@ -10,28 +11,16 @@ slice-aggregate-put c = search needs
 put-requires : tie.Need-put-requires
 put-requires c κs = search needs
 
-number-requires : tie.Need-number-requires
-number-requires c κs = search needs
+slice-aggregate-field : tie.Need-slice-aggregate-field
+slice-aggregate-field c = search needs
 
-slice-aggregate-put-2 : tie.Need-slice-aggregate-put-2
-slice-aggregate-put-2 c = search needs
-
-put-requires-2 : tie.Need-put-requires-2
-put-requires-2 c κs = search needs
+field-requires : tie.Need-field-requires
+field-requires c κs = search needs
 
 returns : tie.Need-returns
-returns c =
-    let a = c .before .before .before .before .before .put .ensures in
-    let b = c .before .before .before .number .ensures in
-    put-line (put-then (put-then a (b .0)) (c .put2 .ensures))
+returns c = put-line (put-next (decimal (c .before .before .before .before .before .before .args .q)) (ascii "\n") (c .before .before .before .put .ensures) (c .field .ensures .0))
 
 pub card-spec : {M : Type 1} → statement M
 card-spec =
     tie.close
-    (tie.spec
-    slice-aggregate-put
-    put-requires
-    number-requires
-    slice-aggregate-put-2
-    put-requires-2
-    returns)
+    (tie.spec slice-aggregate-put put-requires slice-aggregate-field field-requires returns)

@@ -1,6 +1,5 @@
 -- One more, or none.
 use borrow.Author.Tests.{lt-ltb, le-ltb}
-use borrow.Author.Needs.{needs}
 use Rattle.section.proofs.block_or_end.Statement.{statement}
 use Rattle.section.proofs.block_or_end.Tie as tie
 
