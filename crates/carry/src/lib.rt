@@ -92,7 +92,7 @@ fn carried(p: Profile, i: usize, block: &[u8]) -> [u8; POSITIONS]
 }
 
 // The data plus e, from position k on.
-fn place(k: usize, e: &[u8], input: &[u8], word: &mut [u8])
+pub fn place(k: usize, e: &[u8], input: &[u8], word: &mut [u8])
     requires { ⌜ (length (now word) ≡ k + length (now input)) × (length (now e) ≡ length (now word)) ⌝ }
     ensures { λ _. ⌜ drop k (bytes (now (word .exit))) ≡ bytes (now (input .entry)) ⊞ drop k (bytes (now (e .entry))) ⌝ }
 {

@@ -7,7 +7,8 @@ use mathlib.Core.Path.{_≡_, sym, ap, _∙_}
 use mathlib.Core.List.{List}
 use native.Mathlib.Decide.{ℕ-discrete}
 use native.Mathlib.Omega.{arith}
-use lib.ListN.{length, take, drop as drop-list}
+use lib.ListN.{length, take, drop as drop-list, length-drop}
+use lib.Seq.{length-take-le}
 use Rattle.field.specs.Field.{_⊕_, ⊕-comm, of, of-zero}
 use Rattle.series.specs.Series.{Series, _⊞_, _⊠_, ⊞-at}
 use Rattle.series.specs.Shift.{zpow, cut, zpow-at, drop-at, cut-low}
@@ -15,10 +16,11 @@ use Rattle.series.specs.Array.{bytes}
 use Rattle.series.specs.Part.{read-part}
 use Rattle.profile.specs.declared.Profile.{Profile}
 use Rattle.profile.specs.Definition.{checks, room, data-start, data-size}
-use Rattle.profile.specs.Valid.{Valid, checks-room, data-start-most}
+use Rattle.profile.specs.Valid.{Valid, checks-high, checks-room, data-start-most}
 use Rattle.code.specs.Triangle.{carried, carried-cong}
 use Rattle.code.specs.Right.{Right, right-stays, right-step}
 use Rattle.carry.specs.Subword.{filled, Wrote}
+use Rattle.fours.specs.Fours.{WroteFour}
 
 -- ---- from the last subword to the first
 
@@ -81,3 +83,78 @@ pub part-data : (p : Profile) (i a m : ℕ) (d : List ℕ) → a ≡ data-start 
     → (q : ℕ) → q < room p i → bytes (take m (drop-list a d)) q ≡ bytes d (data-start p i + q)
 part-data p i a m d ea em h q l =
     ap (λ (f : Series). f q) (read-part of 0 of-zero a m d h) ∙ cut-low m _ q (omega arith) ∙ drop-at a _ q ∙ ap (λ a. bytes d (a + q)) ea
+
+-- ---- four subwords at a turn
+
+-- one subword back: where its data start, all subwords from v on having as many
+back : (p : Profile) (i j one end : ℕ) → j ≡ suc i → one ≡ room p i → end ≡ data-start p j → (one ≤ end) × (end - one ≡ data-start p i)
+back p i j one end e eo ee =
+    let f : end ≡ data-start p i + room p i = ee ∙ ap (data-start p) e in
+    (omega arith, omega arith)
+
+-- where the data of subwords i to i + 3 start, l data symbols being given in all and those of subword i + 3 ending at `end`
+pub record Quarters (p : Profile) (l i one end : ℕ) : Type 0 where
+  pub less : i + 4 ≤ p .subwords
+  pub rooms : (j : ℕ) → i ≤ j → one ≡ room p j
+  pub some : 0 < one
+  pub d-le : one ≤ end
+  pub d : end - one ≡ data-start p (i + 3)
+  pub c-le : one ≤ end - one
+  pub c : end - one - one ≡ data-start p (i + 2)
+  pub b-le : one ≤ end - one - one
+  pub b : end - one - one - one ≡ data-start p (i + 1)
+  pub a-le : one ≤ end - one - one - one
+  pub a : end - one - one - one - one ≡ data-start p i
+  pub end-le : end ≤ l
+
+pub quarters : (p : Profile) → Valid p → (l i k end : ℕ) → p .nested + 4 ≤ i → i ≤ p .subwords → l ≡ data-size p → k ≡ checks p (p .nested) → end ≡ data-start p i
+    → Quarters p l (i - 4) (p .length - k) end
+quarters p ok l i k end h m el ek ee =
+    let d = back p (i - 4 + 3) i (p .length - k) end (omega arith) (rooms (i - 4 + 3) (omega arith)) ee in
+    let c = back p (i - 4 + 2) (i - 4 + 3) (p .length - k) (end - (p .length - k)) (omega arith) (rooms (i - 4 + 2) (omega arith)) (d .1) in
+    let b = back p (i - 4 + 1) (i - 4 + 2) (p .length - k) (end - (p .length - k) - (p .length - k)) (omega arith) (rooms (i - 4 + 1) (omega arith)) (c .1) in
+    let a = back p (i - 4) (i - 4 + 1) (p .length - k) (end - (p .length - k) - (p .length - k) - (p .length - k)) (omega arith) (rooms (i - 4) (omega arith)) (b .1) in
+    record {
+      less = omega arith;
+      rooms = rooms;
+      some = omega (arith, ek, checks-room p ok (p .nested));
+      d-le = d .0;
+      d = d .1;
+      c-le = c .0;
+      c = c .1;
+      b-le = b .0;
+      b = b .1;
+      a-le = a .0;
+      a = a .1;
+      end-le = omega (arith, ee, el, data-start-most p ok i m);
+    }
+  where
+    rooms : (j : ℕ) → i - 4 ≤ j → p .length - k ≡ room p j
+    rooms j u = ap (λ c. p .length - c) (ek ∙ checks-high p (p .nested) (omega arith) ∙ sym (checks-high p j (omega arith)))
+
+pub upper-four : (p : Profile) → Valid p → (a b c d D old new : Series) (i : ℕ)
+    → ((q : ℕ) → q < room p i → a q ≡ D (data-start p i + q)) → ((q : ℕ) → q < room p (i + 1) → b q ≡ D (data-start p (i + 1) + q))
+    → ((q : ℕ) → q < room p (i + 2) → c q ≡ D (data-start p (i + 2) + q)) → ((q : ℕ) → q < room p (i + 3) → d q ≡ D (data-start p (i + 3) + q))
+    → WroteFour p a b c d i old new → Upper p D old (i + 4) → Upper p D new i
+upper-four p ok a b c d D old new i pa pb pc pd w u = upper-next p ok a D _ new i pa (w .at-0) (λ k h l. u1 k (omega arith) l)
+  where
+    u3 : Upper p D (w .first) (i + 3)
+    u3 = upper-next p ok d D old _ (i + 3) pd (w .at-3) (λ k h l. u k (omega arith) l)
+
+    u2 : Upper p D (w .second) (i + 2)
+    u2 = upper-next p ok c D _ _ (i + 2) pc (w .at-2) (λ k h l. u3 k (omega arith) l)
+
+    u1 : Upper p D (w .third) (i + 1)
+    u1 = upper-next p ok b D _ _ (i + 1) pb (w .at-1) (λ k h l. u2 k (omega arith) l)
+
+pub checks-above : (p : Profile) (i k : ℕ) → p .nested ≤ i → k ≡ checks p (p .nested) → k ≡ checks p i
+checks-above p i k h e = e ∙ checks-high p (p .nested) (omega arith) ∙ sym (checks-high p i h)
+
+pub quarter-length : (a b one r : ℕ) (d : List ℕ) → a ≡ b - one → one ≤ b → b ≤ length d → one ≡ r → length (take (b - a) (drop-list a d)) ≡ r
+quarter-length a b one r d ea h l er =
+    let fits : b - a ≤ length (drop-list a d) = omega (arith, length-drop a d) in
+    length-take-le (b - a) (drop-list a d) fits ∙ omega arith
+
+pub quarter-data : (p : Profile) (i a b one : ℕ) (d : List ℕ) → a ≡ b - one → one ≤ b → b ≤ length d → one ≡ room p i → a ≡ data-start p i
+    → (q : ℕ) → q < room p i → bytes (take (b - a) (drop-list a d)) q ≡ bytes d (data-start p i + q)
+quarter-data p i a b one d ea h l er es = part-data p i a (b - a) d es (omega arith) (omega arith)

@@ -1,15 +1,24 @@
 // Writing a block: the one codeword with the given data in its data positions. Subwords are written from the last to the first.
+ghost use Prim.Native.Nat.{_≤_};
 ghost use mathlib.Core.Path.{_≡_};
 ghost use lib.ListN.{length};
 ghost use Rattle.series.specs.Array.{bytes};
-ghost use Rattle.profile.specs.Definition.{answer-of, data-size as DataSize};
+ghost use Rattle.profile.specs.Definition.{answer-of, checks as Checks, data-start, data-size as DataSize};
+ghost use Rattle.generator.specs.Table.{Table};
 ghost use Rattle.code.specs.Definition.{Encodes};
 ghost use Rattle.code.specs.Check.{Fits};
 ghost use Rattle.encoder.specs.Definition.{asked, writing, written};
+ghost use Rattle.encoder.specs.Write.{Upper};
 use profile::Answer;
 use profile::Parsed;
 use profile::Profile;
 use profile::Refusal;
+
+// What is left to write: the first subwords, and their data.
+struct Left {
+    subwords: usize,
+    symbols: usize,
+}
 
 // The questions about the sizes of input and output.
 fn judge(p: Profile, input: usize, output: usize) -> Parsed
@@ -34,6 +43,40 @@ fn questions(profile: &[u8], input: usize, output: usize) -> Parsed
     }
 }
 
+// Writes four subwords at a turn, while so many are left that nothing is carried to.
+fn write_fours(p: Profile, t: &[u64], k: usize, input: &[u8], out: &mut [u8]) -> Left
+    requires { ⌜ Fits p (now out) × (length (now input) ≡ DataSize p) × (k ≡ Checks p (p .nested)) × Table 0 k (now t) ⌝ }
+    ensures { λ r. ⌜ (r .subwords ≤ p .subwords) × (r .symbols ≡ data-start p (r .subwords))
+        × Upper p (bytes (now (input .entry))) (bytes (now (out .exit))) (r .subwords) ⌝ }
+{
+    let one = p.length as usize - k;
+    let least = p.nested as usize + 4;
+    let mut end = input.len();
+    let mut i = p.subwords as usize;
+    while i >= least {
+        i = i - 4;
+        let d = end - one;
+        let c = d - one;
+        let b = c - one;
+        let a = b - one;
+        fours::write_four(
+            p,
+            t,
+            i,
+            &input[a..b],
+            &input[b..c],
+            &input[c..d],
+            &input[d..end],
+            out,
+        );
+        end = a;
+    }
+    Left {
+        subwords: i,
+        symbols: end,
+    }
+}
+
 // The whole block. A table is made for each number of check symbols.
 fn write(p: Profile, input: &[u8], out: &mut [u8])
     requires { ⌜ Fits p (now out) × (length (now input) ≡ DataSize p) ⌝ }
@@ -41,9 +84,11 @@ fn write(p: Profile, input: &[u8], out: &mut [u8])
 {
     let n = p.length as usize;
     let mut t = generator::room();
-    let mut made: usize = 0;
-    let mut end = input.len();
-    let mut i = p.subwords as usize;
+    let mut made = p.checks(p.nested) as usize;
+    generator::table(0, made, &mut t);
+    let left = write_fours(p, &t, made, input, out);
+    let mut end = left.symbols;
+    let mut i = left.subwords;
     while i > 0 {
         i = i - 1;
         let k = p.checks(i as u8) as usize;

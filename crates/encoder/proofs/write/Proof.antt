@@ -28,17 +28,38 @@ cast-n c = search needs
 room-requires : tie.Need-room-requires Inv-loop μ-loop
 room-requires c κs = search needs
 
-cast-i : tie.Need-cast-i Inv-loop μ-loop
-cast-i c = search needs
+checks-requires : tie.Need-checks-requires Inv-loop μ-loop
+checks-requires c κs = search needs
+
+cast-made : tie.Need-cast-made Inv-loop μ-loop
+cast-made c = search needs
+
+slice-aggregate-table : tie.Need-slice-aggregate-table Inv-loop μ-loop
+slice-aggregate-table c = search needs
+
+table-requires : tie.Need-table-requires Inv-loop μ-loop
+table-requires c κs =
+    let given = c .before .before .before .before .before .before in
+    let p = given .args .p in
+    (omega (arith, checks-most p (given .pre .0 .valid) (p .nested), c .before .checks .ensures), search needs)
+
+slice-aggregate-write-fours : tie.Need-slice-aggregate-write-fours Inv-loop μ-loop
+slice-aggregate-write-fours c = search needs
+
+write-fours-requires : tie.Need-write-fours-requires Inv-loop μ-loop
+write-fours-requires c κs =
+    let given = c .before .before .before .before .before .before .before .before .before .before in
+    (given .pre .0, given .pre .1, c .before .before .before .before .before .checks .ensures, c .before .before .before .table .ensures)
 
 loop-holds : tie.Need-loop-holds Inv-loop μ-loop
 loop-holds c =
-    let given = c .before .before .before .before .before in (
-      omega arith,
-      given .pre .1 ∙ sym (data-size-is (given .args .p) (given .pre .0 .valid)),
-      record { size = search needs; table = λ h. absurd (omega arith) },
-      given .pre .0,
-      λ k h l. absurd (omega arith),
+    let given = c .before .before .before .before .before .before .before .before .before .before .before .before .before in
+    let (most, start, right) = c .before .before .write-fours .ensures in (
+      most,
+      start,
+      record { size = search needs; table = λ h. c .before .before .before .before .before .before .table .ensures },
+      record { valid = given .pre .0 .valid; size = omega (arith, c .before .out .given, given .pre .0 .size) },
+      right,
     )
 
 sub-i : tie.Need-sub-i Inv-loop μ-loop
@@ -46,11 +67,11 @@ sub-i c = search needs
 
 cast-checks : tie.Need-cast-checks Inv-loop μ-loop
 cast-checks c =
-    let given = c .before .before .before .before .before .before .before in
+    let given = c .before .before .before .before .before .before .before .before .before .before .before .before .before .before .before in
     record { fits = omega (arith, given .pre .0 .valid .subwords, c .before .loop .inv .0) }
 
-checks-requires : tie.Need-checks-requires Inv-loop μ-loop
-checks-requires c κs = search needs
+checks-requires-2 : tie.Need-checks-requires-2 Inv-loop μ-loop
+checks-requires-2 c κs = search needs
 
 cast-k : tie.Need-cast-k Inv-loop μ-loop
 cast-k c = search needs
@@ -60,27 +81,27 @@ slice-aggregate-prepare c = search needs
 
 prepare-requires : tie.Need-prepare-requires Inv-loop μ-loop
 prepare-requires c κs =
-    let given = c .before .before .before .before .before .before .before .before .before in
+    let given = c .before .before .before .before .before .before .before .before .before .before .before .before .before .before .before .before .before in
     let now = c .before .before .before .loop in
     let p = given .args .p in
-    let k = c .before .checks .ensures in
+    let k = c .before .checks2 .ensures in
     (now .inv .2, omega (arith, checks-some p (given .pre .0 .valid) (now .i - 1), k), omega (arith, checks-most p (given .pre .0 .valid) (now .i - 1), k))
 
 sub-start : tie.Need-sub-start Inv-loop μ-loop
 sub-start c =
-    let given = c .before .before .before .before .before .before .before .before .before .before .before in
+    let given = c .before .before .before .before .before .before .before .before .before .before .before .before .before .before .before .before .before .before .before in
     let now = c .before .before .before .before .before .loop in
     let test = c .before .before .before .before .loop-test .taken in
-    let checks = c .before .before .before .checks .ensures in
+    let checks = c .before .before .before .checks2 .ensures in
     let here = turn (given .args .p) (given .pre .0 .valid) _ (now .i) _ (now .end) test (now .inv .0) (given .pre .1) checks (now .inv .1) in
     here .checks-le
 
 sub-start-2 : tie.Need-sub-start-2 Inv-loop μ-loop
 sub-start-2 c =
-    let given = c .before .before .before .before .before .before .before .before .before .before .before in
+    let given = c .before .before .before .before .before .before .before .before .before .before .before .before .before .before .before .before .before .before .before in
     let now = c .before .before .before .before .before .loop in
     let test = c .before .before .before .before .loop-test .taken in
-    let checks = c .before .before .before .checks .ensures in
+    let checks = c .before .before .before .checks2 .ensures in
     let here = turn (given .args .p) (given .pre .0 .valid) _ (now .i) _ (now .end) test (now .inv .0) (given .pre .1) checks (now .inv .1) in
     here .room-le
 
@@ -95,26 +116,26 @@ part-write-subword-start c = omega arith
 
 part-write-subword-end : tie.Need-part-write-subword-end Inv-loop μ-loop
 part-write-subword-end c =
-    let given = c .before .before .before .before .before .before .before .before .before .before .before .before in
+    let given = c .before .before .before .before .before .before .before .before .before .before .before .before .before .before .before .before .before .before .before .before in
     let now = c .before .before .before .before .before .before .loop in
     let test = c .before .before .before .before .before .loop-test .taken in
-    let checks = c .before .before .before .before .checks .ensures in
+    let checks = c .before .before .before .before .checks2 .ensures in
     let here = turn (given .args .p) (given .pre .0 .valid) _ (now .i) _ (now .end) test (now .inv .0) (given .pre .1) checks (now .inv .1) in
     here .end-le
 
 write-subword-requires : tie.Need-write-subword-requires Inv-loop μ-loop
 write-subword-requires c κs =
-    let given = c .before .before .before .before .before .before .before .before .before .before .before .before .before .before in
+    let given = c .before .before .before .before .before .before .before .before .before .before .before .before .before .before .before .before .before .before .before .before .before .before in
     let now = c .before .before .before .before .before .before .before .before .loop in
     let test = c .before .before .before .before .before .before .before .loop-test .taken in
-    let checks = c .before .before .before .before .before .before .checks .ensures in
+    let checks = c .before .before .before .before .before .before .checks2 .ensures in
     let here = turn (given .args .p) (given .pre .0 .valid) _ (now .i) _ (now .end) test (now .inv .0) (given .pre .1) checks (now .inv .1) in
     let input = given .args .input .now in
-    let start = now .end - (given .args .p .length - c .before .before .before .before .before .before .checks .result) in
+    let start = now .end - (given .args .p .length - c .before .before .before .before .before .before .checks2 .result) in
     let fits : now .end - start ≤ length (drop start input) = omega (arith, length-drop start input, here .end-le) in (
       now .inv .3,
       here .less,
-      table-for (c .before .before .before .before .before .before .checks .ensures) (c .before .before .before .before .prepare .ensures),
+      table-for (c .before .before .before .before .before .before .checks2 .ensures) (c .before .before .before .before .prepare .ensures),
       length-take-le (now .end - start) (drop start input) fits ∙ here .size,
     )
 
@@ -123,30 +144,30 @@ loop-less c = search needs
 
 loop-again : tie.Need-loop-again Inv-loop μ-loop
 loop-again c =
-    let given = c .before .before .before .before .before .before .before .before .before .before .before .before .before .before .before .before .before in
+    let given = c .before .before .before .before .before .before .before .before .before .before .before .before .before .before .before .before .before .before .before .before .before .before .before .before .before in
     let now = c .before .before .before .before .before .before .before .before .before .before .before .loop in
     let test = c .before .before .before .before .before .before .before .before .before .before .loop-test .taken in
-    let checks = c .before .before .before .before .before .before .before .before .before .checks .ensures in
+    let checks = c .before .before .before .before .before .before .before .before .before .checks2 .ensures in
     let here = turn (given .args .p) (given .pre .0 .valid) _ (now .i) _ (now .end) test (now .inv .0) (given .pre .1) checks (now .inv .1) in
     let p = given .args .p in
     let ok = given .pre .0 .valid in
     let input = given .args .input .now in
-    let start = now .end - (p .length - c .before .before .before .before .before .before .before .before .before .checks .result) in
+    let start = now .end - (p .length - c .before .before .before .before .before .before .before .before .before .checks2 .result) in
     let fits : start + (now .end - start) ≤ length input = omega (arith, here .end-le) in (
       omega (arith, now .inv .0),
       here .start,
       record { size = search needs; table = λ h. c .before .before .before .before .before .before .before .prepare .ensures },
-      record { valid = ok; size = omega (arith, c .before .out .given, now .inv .3 .size) },
+      record { valid = ok; size = omega (arith, c .before .out2 .given, now .inv .3 .size) },
       upper-next p ok _ (bytes input) _ _ (now .i - 1) (part-data p (now .i - 1) start (now .end - start) input (here .start) (here .size) fits)
           (c .before .before .write-subword .ensures) (λ k h l. now .inv .4 k (omega (arith, h)) l),
     )
 
 same-length : tie.Need-same-length Inv-loop μ-loop
-same-length c = c .before .loop .inv .3 .size ∙ sym (c .before .before .before .before .before .before .before .pre .0 .size)
+same-length c = c .before .loop .inv .3 .size ∙ sym (c .before .before .before .before .before .before .before .before .before .before .before .before .before .before .before .pre .0 .size)
 
 returns : tie.Need-returns Inv-loop μ-loop
 returns c =
-    let given = c .before .before .before .before .before .before .before in
+    let given = c .before .before .before .before .before .before .before .before .before .before .before .before .before .before .before in
     all-right (given .args .p) (given .pre .0 .valid) _ _ (λ k l. c .before .loop .inv .4 k (omega (arith, c .loop-test .left)) l)
 
 pub write-spec : {M : Type 1} → statement M
@@ -157,11 +178,16 @@ write-spec =
     μ-loop
     cast-n
     room-requires
-    cast-i
+    checks-requires
+    cast-made
+    slice-aggregate-table
+    table-requires
+    slice-aggregate-write-fours
+    write-fours-requires
     loop-holds
     sub-i
     cast-checks
-    checks-requires
+    checks-requires-2
     cast-k
     slice-aggregate-prepare
     prepare-requires

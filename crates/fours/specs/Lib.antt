@@ -1,0 +1,2 @@
+-- What is written of four subwords.
+pub mod Fours
