@@ -1,4 +1,3 @@
-pub mod Packed
+-- `Leaves` of Leaves, with `remainder` of Remainder, is what the promises speak of.
 pub mod Remainder
-pub mod Multiples
-pub mod Building
+pub mod Leaves

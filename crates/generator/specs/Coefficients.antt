@@ -168,6 +168,10 @@ module _ (first : ℕ) where
   unfolding aligned rest
   aligned-at k i h l = zpow-at (48 - k) (rest first k) i ∙ ⊞-at (generator first k) (zpow k) i ∙ ap (λ (s : F). generator first k i ⊕ s) (zpow-other k i (omega arith)) ∙ ⊕-zero _
 
+  pub aligned-low : (k i : ℕ) → i < 48 - k → aligned first k i ≡ 𝟎
+  unfolding aligned
+  aligned-low k = zpow-low (48 - k) (rest first k)
+
   below-aligned : (k : ℕ) → k ≤ 48 → below 48 (aligned first k)
   unfolding aligned
   below-aligned k h = below-⊠ (suc (48 - k)) k 48 (zpow (48 - k)) (rest first k) (below-zpow (48 - k)) (below-rest first k) (omega arith)

@@ -6,12 +6,12 @@ use Prim.Native.Nat.{ℕ, _≤_}
 use mathlib.Core.Path.{_≡_, subst}
 use mathlib.Core.List.{List}
 use lib.ListN.{length}
-use Rattle.division.specs.Multiples.{Multiples, lower}
+use Rattle.multiples.specs.Multiples.{rows, Multiples, lower}
 use Rattle.generator.specs.Generator.{aligned}
 
 pub record Table (first k : ℕ) (t : List ℕ) : Type 0 where
-  pub multiples : Multiples t
-  pub generator : lower t ≡ aligned first k
+  pub multiples : Multiples (rows k) t
+  pub generator : lower (rows k) t ≡ aligned first k
 
 pub record Made (k : ℕ) (t : List ℕ) : Type 0 where
   pub size : length t ≡ 1536

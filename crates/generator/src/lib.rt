@@ -58,7 +58,7 @@ pub fn table(first: usize, k: usize, t: &mut [u64])
     ensures { λ _. ⌜ Table first k (now (t .exit)) ⌝ }
 {
     let g = generator(first, k);
-    division::multiples(g, t);
+    multiples::multiples(g, k, t);
 }
 
 // The table for k check symbols, made anew unless it was made for them; made for 0 is room that holds none yet.

@@ -14,7 +14,7 @@ use Rattle.series.specs.Shift.{cut-none, cut-high, cut-suc, cut-⊞, cut-drop}
 use Rattle.series.specs.Array.{bytes}
 use Rattle.kernel.specs.Store.{bytes-set}
 use Rattle.division.specs.Remainder.{remainder}
-use Rattle.division.specs.Multiples.{lower}
+use Rattle.multiples.specs.Multiples.{rows, lower}
 use Rattle.generator.specs.Table.{Table}
 use Rattle.reed_solomon.specs.Definition.{systematic}
 use Rattle.reed_solomon.specs.Residue.{residue-table, residue-systematic}
@@ -35,7 +35,7 @@ front-more l i v r w h e q =
     split : drop i w ≡ K (w i) ⊞ Z ⊠ tail (drop i w)
     split = head-tail (drop i w) ∙ ap (λ (a : F). K a ⊞ Z ⊠ tail (drop i w)) (drop-at0 i w)
 
-pub front-all : (n k : ℕ) (t : List ℕ) (w r : Series) → k ≤ 48 → k ≤ n → Table 0 k t → r ≡ remainder (lower t) (n - k) (drop k w)
+pub front-all : (n k : ℕ) (t : List ℕ) (w r : Series) → k ≤ 48 → k ≤ n → Table 0 k t → r ≡ remainder (lower (rows k) t) (n - k) (drop k w)
     → cut k (drop (48 - k) r) ⊞ zpow k ⊠ drop k w ≡ systematic n k w
 front-all n k t w r h l p e =
     shape (cut k w) _ _

@@ -1,6 +1,7 @@
 -- The remainder of a word by the generator of k roots, from root `first` on, and what it tells of the word.
 --
 --   residue first n k w   that remainder: the one polynomial of degree below k with the word's values at these roots
+--   Residual first k l r  the array r of 48 symbols holds the remainder of the word l
 --
 -- Proved: it has the word's syndromes first to first + k - 1 (residue-syndrome; residue-syndromes from an array), so a word whose remainder is zero
 -- has none (residue-none, residue-clean); it is found by the table (residue-table) and depends on the first n symbols (residue-cong). With the first k roots:
@@ -26,7 +27,7 @@ use Rattle.series.specs.Value.{value, value-more, value-cong, value-zero, value
 use Rattle.series.specs.Interpolation.{interpolate, interpolate-at, interpolate-is, below-interpolate}
 use Rattle.kernel.specs.Store.{cut-cong}
 use Rattle.division.specs.Remainder.{remainder, remainder-top}
-use Rattle.division.specs.Multiples.{lower}
+use Rattle.multiples.specs.Multiples.{rows, lower}
 use Rattle.generator.specs.Generator.{rest, aligned, below-rest, rest-value}
 use Rattle.generator.specs.Table.{Table}
 use Rattle.reed_solomon.specs.Definition.{root, syndrome, upper, check-symbols, systematic}
@@ -34,6 +35,10 @@ use Rattle.reed_solomon.specs.Systematic.{roots-distinct, syndrome-is, s
 
 unfoldable pub residue : ℕ → ℕ → ℕ → Series → Series
 residue first n k w = interpolate k (λ j. root (first + j)) (λ j. syndrome n w (first + j))
+
+pub record Residual (first k : ℕ) (l r : List ℕ) : Type 0 where
+  pub long : length r ≡ 48
+  pub is : bytes r ≡ residue first (length l) k (bytes l)
 
 pub below-residue : (first n k : ℕ) (w : Series) → below k (residue first n k w)
 unfolding residue
@@ -45,7 +50,7 @@ residue-cong first n k f g same = ap (interpolate k (λ j. root (first + j))) (f
 
 -- by the table: from what the symbols from k on leave
 pub residue-table : (first n k : ℕ) (t : List ℕ) (w r out : Series) → first + k ≤ 48 → k ≤ n → Table first k t
-    → r ≡ remainder (lower t) (n - k) (drop k w) → out ≡ cut k (w ⊞ drop (48 - k) r) → out ≡ residue first n k w
+    → r ≡ remainder (lower (rows k) t) (n - k) (drop k w) → out ≡ cut k (w ⊞ drop (48 - k) r) → out ≡ residue first n k w
 unfolding residue aligned root syndrome
 residue-table first n k t w r out h l p e o =
     interpolate-is k out _ _ (roots-distinct first k (omega arith)) (rw o (below-cut k _)) (λ j b.
@@ -61,11 +66,15 @@ residue-table first n k t w r out h l p e o =
     left : (j : ℕ) → j < k → value k (drop (48 - k) r) (x j) ≡ pow (x j) k ⊙ value (n - k) (drop k w) (x j)
     left j b =
         ap (λ (f : Series). value k (drop (48 - k) f) (x j)) e
-        ∙ remainder-top k (rest first k) (lower t) (n - k) (drop k w) (x j) (omega arith) (p .generator) (below-rest first k) (power-nonzero (first + j + 1))
+        ∙ remainder-top k (rest first k) (lower (rows k) t) (n - k) (drop k w) (x j) (omega arith) (p .generator) (below-rest first k) (power-nonzero (first + j + 1))
         (rest-value first k j b)
 
     whole : (j : ℕ) → value n w (x j) ≡ value k w (x j) ⊕ pow (x j) k ⊙ value (n - k) (drop k w) (x j)
     whole j = let e : n ≡ k + (n - k) = omega arith in ap (λ (m : ℕ). value m w (x j)) e ∙ value-split k (n - k) w (x j)
+
+pub residual-table : (first k : ℕ) (t : List ℕ) → first + k ≤ 48 → Table first k t → (l : List ℕ) (r : Series) (out : List ℕ) → k ≤ length l → length out ≡ 48
+    → r ≡ remainder (lower (rows k) t) (length l - k) (drop k (bytes l)) → bytes out ≡ cut k (bytes l ⊞ drop (48 - k) r) → Residual first k l out
+residual-table first k t h p l r out room long e o = record { long = long; is = residue-table first (length l) k t (bytes l) r (bytes out) h room p e o }
 
 module _ (first n k : ℕ) (w : Series) (small : first + k < 255) where
   pub residue-syndrome : (j : ℕ) → j < k → value k (residue first n k w) (root (first + j)) ≡ syndrome n w (first + j)

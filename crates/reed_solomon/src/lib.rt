@@ -10,13 +10,13 @@ ghost use Rattle.series.specs.Series.{O, _⊞_};
 ghost use Rattle.series.specs.Shift.{drop, cut};
 ghost use Rattle.series.specs.Array.{bytes};
 ghost use Rattle.polynomial.specs.Polynomial.{row};
-ghost use Rattle.division.specs.Packed.{packed};
+ghost use Rattle.packed.specs.Packed.{packed};
 ghost use Rattle.generator.specs.Table.{Table};
 ghost use Rattle.reed_solomon.specs.Definition.{root as Root, syndrome as Syndrome, systematic};
-ghost use Rattle.reed_solomon.specs.Residue.{residue as Residue};
-use division::Packed;
+ghost use Rattle.reed_solomon.specs.Residue.{residue as Residue, Residual};
 use field::Exponent;
 use field::Gf;
+use packed::Packed;
 use polynomial::SYNDROMES;
 
 // α^(j+1), the point of syndrome j.
@@ -43,7 +43,7 @@ pub fn encode(t: &[u64], k: usize, word: &mut [u8])
     ensures { λ _. ⌜ bytes (now (word .exit)) ≡ systematic (length (now (word .entry))) k (bytes (now (word .entry))) ⌝ }
 {
     let r = division::remainder(t, word, k);
-    let checks = division::unpack(r);
+    let checks = packed::unpack(r);
     let s = 48 - k;
     let mut p: usize = 0;
     while p < k {
@@ -57,7 +57,7 @@ fn difference(word: &[u8], k: usize, r: Packed) -> [u8; SYNDROMES]
     requires { ⌜ (k ≤ 48) × (k ≤ length (now word)) ⌝ }
     ensures { λ out. ⌜ bytes out ≡ cut k (bytes (now (word .entry)) ⊞ drop (48 - k) (packed r)) ⌝ }
 {
-    let checks = division::unpack(r);
+    let checks = packed::unpack(r);
     let above = 48 - k;
     let mut out = [0u8; SYNDROMES];
     let mut q: usize = 0;
@@ -76,22 +76,40 @@ pub fn residue(t: &[u64], first: usize, k: usize, word: &[u8]) -> [u8; SYNDROMES
     difference(word, k, division::remainder(t, word, k))
 }
 
-// The remainders of two words.
-pub struct ResiduePair {
+// The remainders of four words.
+pub struct FourResidues {
     pub first: [u8; SYNDROMES],
     pub second: [u8; SYNDROMES],
+    pub third: [u8; SYNDROMES],
+    pub fourth: [u8; SYNDROMES],
 }
 
-// The same of two words of one length: it takes little longer than one.
-pub fn residues(t: &[u64], first: usize, k: usize, a: &[u8], b: &[u8]) -> ResiduePair
-    requires { ⌜ Table first k (now t) × (first + k ≤ 48) × (k ≤ length (now a)) × (length (now b) ≡ length (now a)) ⌝ }
-    ensures first { λ r. ⌜ (length (r .first) ≡ 48) × (bytes (r .first) ≡ Residue first (length (now (a .entry))) k (bytes (now (a .entry)))) ⌝ }
-    ensures second { λ r. ⌜ (length (r .second) ≡ 48) × (bytes (r .second) ≡ Residue first (length (now (b .entry))) k (bytes (now (b .entry)))) ⌝ }
+// The same of four words of one length: up to 32 roots it takes little longer than one.
+pub fn residues(
+    t: &[u64],
+    first: usize,
+    k: usize,
+    a: &[u8],
+    b: &[u8],
+    c: &[u8],
+    d: &[u8],
+) -> FourResidues
+    requires { ⌜ Table first k (now t) × (first + k ≤ 48) × (k ≤ length (now a)) × (length (now b) ≡ length (now a))
+        × (length (now c) ≡ length (now a)) × (length (now d) ≡ length (now a)) ⌝ }
+    ensures { λ r. ⌜ Residual first k (now (a .entry)) (r .first) × Residual first k (now (b .entry)) (r .second)
+        × Residual first k (now (c .entry)) (r .third) × Residual first k (now (d .entry)) (r .fourth) ⌝ }
 {
-    let both = division::remainders(t, a, b, k);
-    let first = difference(a, k, both.0);
-    let second = difference(b, k, both.1);
-    ResiduePair { first, second }
+    let left = division::remainders(t, a, b, c, d, k);
+    let first = difference(a, k, left.0);
+    let second = difference(b, k, left.1);
+    let third = difference(c, k, left.2);
+    let fourth = difference(d, k, left.3);
+    FourResidues {
+        first,
+        second,
+        third,
+        fourth,
+    }
 }
 
 // Whether all symbols are zero: their bits, taken together.

@@ -1,5 +1,7 @@
 -- The table of multiples of the generator.
-use mathlib.Core.Path.{_∙_}
+use mathlib.Core.Path.{ap, _∙_}
+use Rattle.series.specs.Series.{Series}
+use Rattle.generator.specs.Coefficients.{aligned-low}
 use borrow.Author.Needs.{needs}
 use Rattle.generator.proofs.table.Statement.{statement}
 use Rattle.generator.proofs.table.Tie as tie
@@ -8,7 +10,9 @@ generator-requires : tie.Need-generator-requires
 generator-requires c κs = search needs
 
 multiples-requires : tie.Need-multiples-requires
-multiples-requires c κs = search needs
+multiples-requires c κs =
+    let given = c .before .before .before in
+    (search needs, λ i h. ap (λ (f : Series). f i) (c .before .generator .ensures) ∙ aligned-low (given .args .first) (given .args .k) i h)
 
 same-length : tie.Need-same-length
 same-length c = search needs

@@ -1,39 +1,54 @@
 -- What the symbols from k on leave, against the first k.
-use Prim.Native.Nat.{_≤_}
 use native.Mathlib.Omega.{arith}
-use lib.ListN.{length}
-use Rattle.series.specs.Array.{bytes}
-use Rattle.reed_solomon.specs.Residue.{residue-table}
+use Rattle.reed_solomon.specs.Residue.{residual-table}
 use borrow.Author.Needs.{needs}
 use Rattle.reed_solomon.proofs.residues.Statement.{statement}
 use Rattle.reed_solomon.proofs.residues.Tie as tie
 
 remainders-requires : tie.Need-remainders-requires
 remainders-requires c κs =
-    let given = c .before .before .before .pre in
-    (given .0 .multiples, given .2, given .3)
+    let given = c .before .before .before .before .before .pre in
+    (given .0 .multiples, given .2, given .3, given .4, given .5)
 
 difference-requires : tie.Need-difference-requires
 difference-requires c κs = search needs
 
 difference-requires-2 : tie.Need-difference-requires-2
 difference-requires-2 c κs =
-    let given = c .before .before .before .before .before .pre in
+    let given = c .before .before .before .before .before .before .before .pre in
     (omega (arith, given .1), omega (arith, given .2, given .3))
+
+difference-requires-3 : tie.Need-difference-requires-3
+difference-requires-3 c κs =
+    let given = c .before .before .before .before .before .before .before .before .pre in
+    (omega (arith, given .1), omega (arith, given .2, given .4))
+
+difference-requires-4 : tie.Need-difference-requires-4
+difference-requires-4 c κs =
+    let given = c .before .before .before .before .before .before .before .before .before .pre in
+    (omega (arith, given .1), omega (arith, given .2, given .5))
 
 returns : tie.Need-returns
 returns c =
-    let given = c .before .before .before .before .before .before in
-    let from = given .args .first in
+    let given = c .before .before .before .before .before .before .before .before .before .before in
+    let first = given .args .first in
     let k = given .args .k in
-    let a = given .args .a .now in
-    let b = given .args .b .now in
-    let left = c .before .before .remainders .ensures in
-    let room : k ≤ length b = omega (arith, given .pre .2, given .pre .3) in
-    let table = given .args .t .now in
-    let first = residue-table from (length a) k table (bytes a) _ _ (given .pre .1) (given .pre .2) (given .pre .0) (left .0) (c .before .difference .ensures) in
-    let second = residue-table from (length b) k table (bytes b) _ _ (given .pre .1) room (given .pre .0) (left .1) (c .difference2 .ensures) in
-    ((search needs, first), (search needs, second))
+    let pre = given .pre in
+    let left = c .before .before .before .before .remainders .ensures in
+    let by = residual-table first k (given .args .t .now) (pre .1) (pre .0) in (
+      by (given .args .a .now) _ _ (pre .2) (search needs) (left .0) (c .before .before .before .difference .ensures),
+      by (given .args .b .now) _ _ (omega (arith, pre .2, pre .3)) (search needs) (left .1) (c .before .before .difference2 .ensures),
+      by (given .args .c .now) _ _ (omega (arith, pre .2, pre .4)) (search needs) (left .2) (c .before .difference3 .ensures),
+      by (given .args .d .now) _ _ (omega (arith, pre .2, pre .5)) (search needs) (left .3) (c .difference4 .ensures),
+    )
 
 pub residues-spec : {M : Type 1} → statement M
-residues-spec = tie.close (tie.spec remainders-requires difference-requires difference-requires-2 returns)
+residues-spec =
+    tie.close
+    (tie.spec
+    remainders-requires
+    difference-requires
+    difference-requires-2
+    difference-requires-3
+    difference-requires-4
+    returns)

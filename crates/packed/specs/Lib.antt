@@ -1,0 +1,2 @@
+-- `packed`, `tops`: what the promises speak of.
+pub mod Packed
