@@ -137,3 +137,8 @@ pub part-syndrome : (n i k : ℕ) (b : List ℕ) → k ≡ n → i * n + n ≤ l
     → syndrome (length (take k (drop (i * n) b))) (bytes (take k (drop (i * n) b))) ≡ syndrome n (subword n (bytes b) i)
 part-syndrome n i k b e h =
     ap (λ l. syndrome l (bytes (take k (drop (i * n) b)))) (part-length n i k b e h) ∙ fun-ext (syndrome-cong n _ _ (part-at n i k b e h))
+
+pub part-residue : (n i k : ℕ) (b : List ℕ) (r : ℕ) → k ≡ n → i * n + n ≤ length b
+    → residue 0 (length (take k (drop (i * n) b))) r (bytes (take k (drop (i * n) b))) ≡ residue 0 n r (subword n (bytes b) i)
+part-residue n i k b r e h =
+    ap (λ l. residue 0 l r (bytes (take k (drop (i * n) b)))) (part-length n i k b e h) ∙ residue-cong 0 n r _ _ (part-at n i k b e h)

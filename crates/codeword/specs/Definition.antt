@@ -6,7 +6,7 @@
 --   zeros? t            whether a table of syndromes is zero
 --   left p s l          the remainder of nested word l of the block s by the further roots
 --   Vanish p s l        the syndromes of nested word l from number 2 t0 on, as many as its code asks for, are zero
---   Remainders p s v r  the rows of r are the remainders of the nested words l < v
+--   Remainders p s r    the rows of r are the remainders of the nested words
 use Prim.Native.Nat.{ℕ, _-_, _*_, _≤_, _<_}
 use mathlib.Core.Path.{_≡_}
 use mathlib.Core.List.{List, []}
@@ -41,8 +41,8 @@ zeros? t = all? 8 (λ i. zero? (getD t i []))
 abbrev pub left : Profile → Series → ℕ → Series
 left p s l = residue (2 * p .t0) (p .length) (further p) (nested p s l)
 
-abbrev pub Remainders : Profile → Series → ℕ → List (List ℕ) → Type 0
-Remainders p s v r = (length r ≡ 3) × ((l : ℕ) → l < v → (length (getD r l []) ≡ 48) × (bytes (getD r l []) ≡ left p s l))
+abbrev pub Remainders : Profile → Series → List (List ℕ) → Type 0
+Remainders p s r = (l : ℕ) → l < p .nested → (length (getD r l []) ≡ 48) × (bytes (getD r l []) ≡ left p s l)
 
 abbrev pub Vanish : Profile → Series → ℕ → Type 0
 Vanish p s l = (j : ℕ) → 2 * p .t0 ≤ j → j < checks p l → syndrome (p .length) (nested p s l) j ≡ 𝟎

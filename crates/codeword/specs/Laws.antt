@@ -3,21 +3,20 @@
 -- Proved: a table of syndromes that is zero says that the subwords are in the code of t0, and a codeword has such a table (zeros-subwords, not-zeros); then the nested words' syndromes below 2 t0 are zero
 -- too, and the block is a codeword exactly if those from there on are (check-passes, check-fails); a nested word's syndromes are those of its remainder
 -- (word-syndrome).
-use Prim.Native.Nat.{ℕ, _+_, _-_, _*_, _≤_, _<_}
+use Prim.Native.Nat.{ℕ, zero, suc, _+_, _-_, _*_, _≤_, _<_}
 use mathlib.Core.Path.{_≡_, sym, ap, _∙_, subst}
 use mathlib.Core.Logic.{_≢_, by-cases}
 use mathlib.Core.Bool.{true, false, true≢false, decide-iff}
-use mathlib.Core.List.{List, []}
-use native.Mathlib.Decide.{decLt, ℕ-discrete}
+use mathlib.Core.List.{List, [], _∷_}
+use native.Mathlib.Decide.{decLt}
 use native.Mathlib.Omega.{arith}
 use borrow.Author.Tests.{lt-ltb, le-ltb}
-use lib.ListN.{length, getD, set, length-set}
-use lib.Seq.{getD-set-same, getD-set-other}
+use lib.ListN.{length, take}
 use Rattle.field.specs.declared.Gf.{Gf}
 use Rattle.field.specs.Field.{𝟎, _⊙_, α, pow, ⊙-zero}
 use Rattle.series.specs.Sum.{sum-zero}
 use Rattle.series.specs.Series.{Series, O, O-at}
-use Rattle.series.specs.Shift.{cut-low, cut-unique}
+use Rattle.series.specs.Shift.{cut, cut-low, cut-unique}
 use Rattle.series.specs.Array.{bytes}
 use Rattle.series.specs.Decide.{holds, holds-yes, holds-no}
 use Rattle.series.specs.Value.{value-more, value-zero}
@@ -27,11 +26,11 @@ use Rattle.profile.specs.Valid.{Valid, checks-is, checks-mono, checks-least, ch
 use Rattle.generator.specs.Table.{Table}
 use Rattle.reed_solomon.specs.Definition.{root, syndrome}
 use Rattle.reed_solomon.specs.Systematic.{syndrome-is}
-use Rattle.reed_solomon.specs.Residue.{below-residue, residue-syndrome}
+use Rattle.reed_solomon.specs.Residue.{residue, Residual, below-residue, residue-syndrome}
 use Rattle.code.specs.Definition.{nested, Codeword}
 use Rattle.code.specs.Block.{syndrome-nested}
 use Rattle.code.specs.Encoding.{codeword?}
-use Rattle.code.specs.Check.{Subwords, table, received}
+use Rattle.code.specs.Check.{Subwords, table, received, prefix-residue}
 use Rattle.codeword.specs.Definition.{further, zeros?, left, Vanish, Remainders}
 
 -- ---- the subwords
@@ -59,15 +58,19 @@ not-zeros p s t is e =
 pub roots-for : {first k j : ℕ} {t : List ℕ} → k ≡ j → Table first k t → Table first j t
 roots-for {first} {t = t} e = subst (λ k. Table first k t) e
 
--- the rows l < v, and one more
-pub remainders-more : (p : Profile) (s : Series) (l : ℕ) (r : List (List ℕ)) (x : List ℕ) → l < 3 → length x ≡ 48 → bytes x ≡ left p s l → Remainders p s l r
-    → Remainders p s (l + 1) (set r l x)
-remainders-more p s l r x low full is (long, rows) =
-    (length-set r l x ∙ long, λ i h. go i h (ℕ-discrete i l))
-  where
-    go : (i : ℕ) → i < l + 1 → Dec (i ≡ l) → (length (getD (set r l x) i []) ≡ 48) × (bytes (getD (set r l x) i []) ≡ left p s i)
-    go i h (yes e) = rw (e, getD-set-same r l x [] (omega arith)) (full, is)
-    go i h (no n) = rw (getD-set-other r l i x [] n) (rows i (omega (arith, n)))
+-- a nested word that stands in an array, and its remainder
+pub residual-left : (p : Profile) (s : Series) (l k : ℕ) (w x : List ℕ) → p .length ≤ length w → k ≡ further p → (l < p .nested → bytes w ≡ cut (p .length) (nested p s l))
+    → Residual (2 * p .t0) k (take (p .length) w) x → l < p .nested → (length x ≡ 48) × (bytes x ≡ left p s l)
+residual-left p s l k w x room count word r low =
+    (r .long, r .is ∙ prefix-residue (2 * p .t0) (p .length) k w (nested p s l) room (word low) ∙ ap (λ k. residue (2 * p .t0) (p .length) k (nested p s l)) count)
+
+pub three-rows : (p : Profile) (s : Series) (x y z : List ℕ) → Valid p → (0 < p .nested → (length x ≡ 48) × (bytes x ≡ left p s 0))
+    → (1 < p .nested → (length y ≡ 48) × (bytes y ≡ left p s 1)) → (2 < p .nested → (length z ≡ 48) × (bytes z ≡ left p s 2))
+    → Remainders p s (x ∷ y ∷ z ∷ [])
+three-rows p s x y z ok hx hy hz zero low = hx low
+three-rows p s x y z ok hx hy hz (suc zero) low = hy low
+three-rows p s x y z ok hx hy hz (suc (suc zero)) low = hz low
+three-rows p s x y z ok hx hy hz (suc (suc (suc l))) low = absurd (omega (arith, ok .nested))
 
 module _ (p : Profile) (s : Series) (inner : Subwords p s) where
   nested-low : (l j : ℕ) → j < 2 * p .t0 → syndrome (p .length) (nested p s l) j ≡ 𝟎

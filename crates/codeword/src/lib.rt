@@ -1,17 +1,19 @@
-// The syndromes of a block, the codeword check, and the tables that both divide by. What the promises speak of stands in specs/Definition.antt.
+// The codeword check, and the tables that a block is divided by. What the promises speak of stands in specs/Definition.antt.
 ghost use Prim.Native.Nat.{ℕ, _*_, _≤_, _<_};
 ghost use mathlib.Core.Path.{_≡_};
 ghost use lib.ListN.{length};
 ghost use Rattle.field.specs.Field.{𝟎};
+ghost use Rattle.series.specs.Shift.{cut};
 ghost use Rattle.series.specs.Array.{bytes};
 ghost use Rattle.series.specs.Decide.{holds};
 ghost use Rattle.profile.specs.Valid.{Valid};
-ghost use Rattle.generator.specs.Table.{Table};
 ghost use Rattle.reed_solomon.specs.Definition.{syndrome as Syndrome};
+ghost use Rattle.code.specs.Definition.{nested};
 ghost use Rattle.code.specs.Encoding.{codeword?};
 ghost use Rattle.code.specs.Check.{Fits, Subwords, table, received};
 ghost use Rattle.codeword.specs.Definition.{further as Count, Tables, Further, zeros?, Remainders};
 use code::NESTED;
+use code::POSITIONS;
 use code::SUBWORDS;
 use field::Gf;
 use polynomial::SYNDROMES;
@@ -38,25 +40,6 @@ pub fn tables(p: Profile, t: &mut [u64], u: &mut [u64])
     generator::table(first, further(p), u);
 }
 
-// The syndromes j < 2 t0 of the subwords: eight rows of 48, unused entries zero.
-pub fn syndromes(p: Profile, t: &[u64], block: &[u8]) -> [[Gf; SYNDROMES]; SUBWORDS]
-    requires { ⌜ Fits p (now block) × Table 0 (2 * p .t0) (now t) ⌝ }
-    ensures { λ r. ⌜ table r ≡ received p (bytes (now (block .entry))) (2 * p .t0) ⌝ }
-{
-    let n = p.length as usize;
-    let m = p.subwords as usize;
-    let k = 2 * p.t0 as usize;
-    let mut out = [[Gf::ZERO; SYNDROMES]; SUBWORDS];
-    let mut i: usize = 0;
-    while i < m {
-        let a = i * n;
-        let e = a + n;
-        out[i] = reed_solomon::syndromes(t, k, &block[a..e]);
-        i = i + 1;
-    }
-    out
-}
-
 // Whether a table of syndromes is zero.
 fn is_zero(rows: [[Gf; SYNDROMES]; SUBWORDS]) -> bool
     ensures { λ b. ⌜ b ≡ holds (zeros? rows) ⌝ }
@@ -71,22 +54,39 @@ fn is_zero(rows: [[Gf; SYNDROMES]; SUBWORDS]) -> bool
     true
 }
 
-// The remainders of the nested words by their further roots.
+// Nested word l; zeros if there is none.
+fn word(p: Profile, block: &[u8], l: usize) -> [u8; POSITIONS]
+    requires { ⌜ Fits p (now block) ⌝ }
+    ensures { λ r. ⌜ (length r ≡ 255) × (l < p .nested → bytes r ≡ cut (p .length) (nested p (bytes (now (block .entry))) l)) ⌝ }
+{
+    if l < p.nested as usize {
+        return nested::nested_word(p, block, l);
+    }
+    [0u8; POSITIONS]
+}
+
+// The remainders of the nested words by their further roots: all in one turn, which takes little longer than one of them.
 fn remainders(p: Profile, u: &[u64], block: &[u8]) -> [[u8; SYNDROMES]; NESTED]
     requires { ⌜ Fits p (now block) × Further p (now u) ⌝ }
-    ensures { λ r. ⌜ Remainders p (bytes (now (block .entry))) (p .nested) r ⌝ }
+    ensures { λ r. ⌜ Remainders p (bytes (now (block .entry))) r ⌝ }
 {
-    let n = p.length as usize;
-    let v = p.nested as usize;
-    let first = 2 * p.t0 as usize;
-    let k = further(p);
     let mut out = [[0u8; SYNDROMES]; NESTED];
-    let mut l: usize = 0;
-    while l < v {
-        let word = nested::nested_word(p, block, l);
-        out[l] = reed_solomon::residue(u, first, k, &word[..n]);
-        l = l + 1;
+    if p.nested == 0 {
+        return out;
     }
+    let n = p.length as usize;
+    let first = 2 * p.t0 as usize;
+    let a = word(p, block, 0);
+    let b = word(p, block, 1);
+    let c = word(p, block, 2);
+    let d = [0u8; POSITIONS];
+    let r = reed_solomon::residues(u, first, further(p), &a[..n], &b[..n], &c[..n], &d[..n]);
+    let x = r.first;
+    let y = r.second;
+    let z = r.third;
+    out[0] = x;
+    out[1] = y;
+    out[2] = z;
     out
 }
 

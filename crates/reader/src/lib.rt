@@ -155,7 +155,7 @@ pub fn read(p: Profile, form: Form, t: &[u64], u: &[u64], input: &[u8], out: &mu
     requires { ⌜ Fits p (now input) × (length (now out) ≡ length (now input)) × Tables p (now t) (now u) ⌝ }
     ensures { λ r. ⌜ Gives form (concluded p (Decode p (bytes (now (input .entry))))) (now (out .entry)) (now (out .exit)) r ⌝ }
 {
-    let syndromes = codeword::syndromes(p, t, input);
+    let syndromes = received::syndromes(p, t, input);
     if codeword::is_clean(p, u, syndromes, input) {
         copy(input, out);
         return Reading {

@@ -53,7 +53,7 @@ array-copy-out-r : tie.Need-array-copy-out-r Inv-loop μ-loop Inv-sums μ-sums
 array-copy-out-r c = omega (arith, c .before .before .before .before .before .before .before .pre .0 .valid .nested, c .sums-test .taken)
 
 slice-aggregate-looked-at : tie.Need-slice-aggregate-looked-at Inv-loop μ-loop Inv-sums μ-sums
-slice-aggregate-looked-at c = sym (c .before .before .before .before .remainders .ensures .1 (c .before .before .before .sums .l) (c .before .before .sums-test .taken) .0)
+slice-aggregate-looked-at c = sym (c .before .before .before .before .remainders .ensures (c .before .before .before .sums .l) (c .before .before .sums-test .taken) .0)
 
 cast-checks : tie.Need-cast-checks Inv-loop μ-loop Inv-sums μ-sums
 cast-checks c = record { fits = omega (arith, c .before .before .before .before .before .before .before .before .before .pre .0 .valid .nested, c .before .before .sums-test .taken) }
@@ -71,7 +71,7 @@ loop-holds : tie.Need-loop-holds Inv-loop μ-loop Inv-sums μ-sums
 loop-holds c = (omega arith, c .before .before .before .before .before .sums .inv .1, λ i h l. absurd (omega arith))
 
 slice-aggregate-syndrome : tie.Need-slice-aggregate-syndrome Inv-loop μ-loop Inv-sums μ-sums
-slice-aggregate-syndrome c = sym (c .before .before .before .before .before .before .before .before .before .remainders .ensures .1 (c .before .before .before .before .before .before .before .before .sums .l) (c .before .before .before .before .before .before .before .sums-test .taken) .0)
+slice-aggregate-syndrome c = sym (c .before .before .before .before .before .before .before .before .before .remainders .ensures (c .before .before .before .before .before .before .before .before .sums .l) (c .before .before .before .before .before .before .before .sums-test .taken) .0)
 
 syndrome-requires : tie.Need-syndrome-requires Inv-loop μ-loop Inv-sums μ-sums
 syndrome-requires c κs =
@@ -108,7 +108,7 @@ sums-again c =
     let given = c .before .before .before .before .before .before .before .before .before .before .before .before .before in
     let p = given .args .p in
     let s = bytes (given .args .block .now) in
-    let is = c .before .before .before .before .before .before .before .before .remainders .ensures .1 (now .l) (c .before .before .before .before .before .before .sums-test .taken) in
+    let is = c .before .before .before .before .before .before .before .before .remainders .ensures (now .l) (c .before .before .before .before .before .before .sums-test .taken) in
     let here : Vanish p s (now .l) = λ j low h.
     sym (word-syndrome p s (given .pre .0 .valid) (now .l) _ (is .0) (is .1) j low h)
     ∙ by-cases (decLt j (looked .result)) (λ q. end .inv .2 j (omega (arith, q, c .loop-test .left)) low) (λ q. looked .ensures .1 j (omega arith) (omega (arith, checks))) in (
@@ -128,7 +128,7 @@ returns-2 c =
     let now = c .before .before .before .before .before .loop in
     let l = c .before .before .before .before .before .before .before .before .before .before .before .sums .l in
     let given = c .before .before .before .before .before .before .before .before .before .before .before .before .before .before .before .before .before in
-    let is = c .before .before .before .before .before .before .before .before .before .before .before .before .remainders .ensures .1 l (c .before .before .before .before .before .before .before .before .before .before .sums-test .taken) in
+    let is = c .before .before .before .before .before .before .before .before .before .before .before .before .remainders .ensures l (c .before .before .before .before .before .before .before .before .before .before .sums-test .taken) in
     let nonzero = isZero-false _ (sym (c .before .is-zero .ensures) ∙ unless _ (c .if1 .taken)) in
     check-fails (given .args .p) _ (given .pre .0 .valid) l _ (is .0) (is .1) (now .j) (c .before .before .before .before .before .before .before .before .before .before .sums-test .taken) (now .inv .0)
     (omega (arith, c .before .before .before .before .loop-test .taken, c .before .before .before .before .before .before .looked-at .ensures .0, c .before .before .before .before .before .before .before .checks .ensures))

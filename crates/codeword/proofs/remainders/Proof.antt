@@ -1,119 +1,143 @@
--- The remainders of the first l nested words stand.
-use Prim.Native.Nat.{_-_, _*_, _≤_}
-use mathlib.Core.Path.{_≡_, sym, ap, _∙_}
+-- The remainders of three words at once, of which as many are nested words as there are.
+use Prim.Native.Nat.{ℕ}
+use mathlib.Core.Path.{sym, _∙_}
 use native.Mathlib.Omega.{arith}
-use borrow.Author.Count.{below-none}
-use lib.ListN.{length}
+use lib.ListN.{length, replicate}
 use lib.Seq.{length-take-le}
 use Rattle.series.specs.Array.{bytes}
 use Rattle.profile.specs.Valid.{checks-least, checks-most, checks-room}
-use Rattle.reed_solomon.specs.Residue.{residue}
-use Rattle.code.specs.Definition.{nested}
-use Rattle.code.specs.Check.{prefix-residue}
-use Rattle.codeword.specs.Definition.{Remainders}
-use Rattle.codeword.specs.Laws.{roots-for, remainders-more}
+use Rattle.codeword.specs.Laws.{roots-for, residual-left, three-rows}
 use borrow.Author.Needs.{needs}
 use Rattle.codeword.proofs.remainders.Statement.{statement}
 use Rattle.codeword.proofs.remainders.Tie as tie
 
-abbrev Inv-loop : tie.InvT-loop
-Inv-loop p u block n v first k out₀ l₀ out l = (l ≤ v) × Remainders p (bytes block) l out
+returns : tie.Need-returns
+returns c = λ l h. absurd (omega arith)
 
-abbrev μ-loop : tie.MeasureT-loop
-μ-loop p u block n v first k out₀ l₀ out l = v - l
-
-cast-n : tie.Need-cast-n Inv-loop μ-loop
+cast-n : tie.Need-cast-n
 cast-n c = search needs
 
-cast-v : tie.Need-cast-v Inv-loop μ-loop
-cast-v c = search needs
-
-cast-first : tie.Need-cast-first Inv-loop μ-loop
+cast-first : tie.Need-cast-first
 cast-first c = search needs
 
-mul-first : tie.Need-mul-first Inv-loop μ-loop
+mul-first : tie.Need-mul-first
 mul-first c = search needs
 
-further-requires : tie.Need-further-requires Inv-loop μ-loop
-further-requires c κs = c .before .before .before .before .before .pre .0 .valid
+word-requires : tie.Need-word-requires
+word-requires c κs = c .before .before .before .before .before .before .pre .0
 
-loop-holds : tie.Need-loop-holds Inv-loop μ-loop
-loop-holds c = (omega arith, (search needs, below-none _))
+word-requires-2 : tie.Need-word-requires-2
+word-requires-2 c κs = c .before .before .before .before .before .before .before .pre .0
 
-nested-word-requires : tie.Need-nested-word-requires Inv-loop μ-loop
-nested-word-requires c κs = (c .before .before .before .before .before .before .before .before .pre .0, c .loop-test .taken)
+word-requires-3 : tie.Need-word-requires-3
+word-requires-3 c κs = c .before .before .before .before .before .before .before .before .pre .0
 
-array-share-prefix-word : tie.Need-array-share-prefix-word Inv-loop μ-loop
-array-share-prefix-word c = let given = c .before .before .before .before .before .before .before .before .before in omega (arith, given .pre .0 .valid .length)
+further-requires : tie.Need-further-requires
+further-requires c κs = c .before .before .before .before .before .before .before .before .before .pre .0 .valid
 
-slice-aggregate-residue : tie.Need-slice-aggregate-residue Inv-loop μ-loop
-slice-aggregate-residue c = let given = c .before .before .before .before .before .before .before .before .before .before in sym (length-take-le (given .args .p .length) _ (omega (arith, given .pre .0 .valid .length)))
+array-share-prefix-a : tie.Need-array-share-prefix-a
+array-share-prefix-a c = search needs
 
-residue-requires : tie.Need-residue-requires Inv-loop μ-loop
-residue-requires c κs =
-    let given = c .before .before .before .before .before .before .before .before .before .before in
+slice-aggregate-residues : tie.Need-slice-aggregate-residues
+slice-aggregate-residues c =
+    let ok = c .before .before .before .before .before .before .before .before .before .before .before .pre .0 .valid in
+    let long = c .before .before .before .before .word .ensures .0 in
+    sym (length-take-le (c .before .before .before .before .before .before .before .before .before .before .before .args .p .length) (c .before .before .before .before .word .result) (omega (arith, long, ok .length)))
+
+array-share-prefix-b : tie.Need-array-share-prefix-b
+array-share-prefix-b c = search needs
+
+slice-aggregate-residues-2 : tie.Need-slice-aggregate-residues-2
+slice-aggregate-residues-2 c =
+    let ok = c .before .before .before .before .before .before .before .before .before .before .before .before .pre .0 .valid in
+    let long = c .before .before .before .before .word2 .ensures .0 in
+    sym (length-take-le (c .before .before .before .before .before .before .before .before .before .before .before .before .args .p .length) (c .before .before .before .before .word2 .result) (omega (arith, long, ok .length)))
+
+array-share-prefix-c : tie.Need-array-share-prefix-c
+array-share-prefix-c c = search needs
+
+slice-aggregate-residues-3 : tie.Need-slice-aggregate-residues-3
+slice-aggregate-residues-3 c =
+    let ok = c .before .before .before .before .before .before .before .before .before .before .before .before .before .pre .0 .valid in
+    let long = c .before .before .before .before .word3 .ensures .0 in
+    sym (length-take-le (c .before .before .before .before .before .before .before .before .before .before .before .before .before .args .p .length) (c .before .before .before .before .word3 .result) (omega (arith, long, ok .length)))
+
+array-share-prefix-d : tie.Need-array-share-prefix-d
+array-share-prefix-d c = search needs
+
+slice-aggregate-residues-4 : tie.Need-slice-aggregate-residues-4
+slice-aggregate-residues-4 c = sym (length-take-le (c .before .before .before .before .before .before .before .before .before .before .before .before .before .before .args .p .length) _ (c .before .before .before .before .before .before .before .before .before .before .before .before .before .before .pre .0 .valid .length .1))
+
+residues-requires : tie.Need-residues-requires
+residues-requires c κs =
+    let given = c .before .before .before .before .before .before .before .before .before .before .before .before .before .before in
     let p = given .args .p in
+    let n = p .length in
     let ok = given .pre .0 .valid in
     let k = c .before .before .before .before .further .ensures in
-    let long = length-take-le (p .length) (c .before .nested-word .result) (omega (arith, ok .length)) in (
-      roots-for (sym k) (given .pre .1 (omega (arith, c .before .before .loop-test .taken))),
+    let room = ok .length .1 in
+    let long1 = c .before .before .before .before .before .before .before .word .ensures .0 in
+    let long2 = c .before .before .before .before .before .before .word2 .ensures .0 in
+    let long3 = c .before .before .before .before .before .word3 .ensures .0 in
+    let size1 = length-take-le n (c .before .before .before .before .before .before .before .word .result) (omega (arith, long1, room)) in
+    let size2 = length-take-le n (c .before .before .before .before .before .before .word2 .result) (omega (arith, long2, room)) in
+    let size3 = length-take-le n (c .before .before .before .before .before .word3 .result) (omega (arith, long3, room)) in
+    let size4 = length-take-le n (replicate {A = ℕ} 255 0) room in (
+      roots-for (sym k) (given .pre .1 (omega arith)),
       omega (arith, checks-least p ok 0, checks-most p ok 0, k),
-      omega (arith, checks-room p ok 0, k, long),
+      omega (arith, checks-room p ok 0, k, size1),
+      size2 ∙ sym size1,
+      size3 ∙ sym size1,
+      size4 ∙ sym size1,
     )
 
-mul-out : tie.Need-mul-out Inv-loop μ-loop
-mul-out c = record { fits = omega (arith, c .before .before .before .before .before .before .before .before .before .before .before .pre .0 .valid .nested, c .before .before .before .loop-test .taken) }
+array-set-from-out : tie.Need-array-set-from-out
+array-set-from-out c = search needs
 
-array-set-from-out : tie.Need-array-set-from-out Inv-loop μ-loop
-array-set-from-out c = omega (arith, c .before .before .before .before .before .before .before .before .before .before .before .pre .0 .valid .nested, c .before .before .before .loop-test .taken)
+array-set-from-out-2 : tie.Need-array-set-from-out-2
+array-set-from-out-2 c = search needs
 
-add-l : tie.Need-add-l Inv-loop μ-loop
-add-l c = search needs
+array-set-from-out-3 : tie.Need-array-set-from-out-3
+array-set-from-out-3 c = search needs
 
-loop-less : tie.Need-loop-less Inv-loop μ-loop
-loop-less c = search needs
-
-loop-again : tie.Need-loop-again Inv-loop μ-loop
-loop-again c =
-    let given = c .before .before .before .before .before .before .before .before .before .before .before in
+returns-2 : tie.Need-returns-2
+returns-2 c =
+    let given = c .before .before .before .before .before .before .before .before .before .before .before .before .before .before .before .before .before .before in
     let p = given .args .p in
+    let s = bytes (given .args .block .now) in
     let ok = given .pre .0 .valid in
-    let now = c .before .before .before .before .loop in
-    let low = c .before .before .before .loop-test .taken in
-    let word = c .before .before .nested-word in
-    let s = bytes (given .args .block .now) in (
-      omega (arith, low),
-      remainders-more p s (now .l) (now .out) _ (omega (arith, ok .nested, low)) (search needs)
-          (c .residue .ensures
-          ∙ prefix-residue (2 * p .t0) (p .length) _ (word .result) _ (omega (arith, ok .length)) (word .ensures)
-          ∙ ap (λ k. residue (2 * p .t0) (p .length) k (nested p s (now .l))) (c .before .before .before .before .before .further .ensures))
-          (now .inv .1),
-    )
-
-returns : tie.Need-returns Inv-loop μ-loop
-returns c =
-    let end = c .before .loop in
-    (end .inv .1 .0, λ l h. end .inv .1 .1 l (omega (arith, c .loop-test .left)))
+    let k = c .before .before .before .before .before .before .before .before .further .ensures in
+    let r = c .before .before .before .residues in
+    let long1 = c .before .before .before .before .before .before .before .before .before .before .before .word .ensures .0 in
+    let long2 = c .before .before .before .before .before .before .before .before .before .before .word2 .ensures .0 in
+    let long3 = c .before .before .before .before .before .before .before .before .before .word3 .ensures .0 in
+    three-rows p s _ _ _ ok
+    (residual-left p s 0 _ (c .before .before .before .before .before .before .before .before .before .before .before .word .result) _ (omega (arith, long1, ok .length)) k (c .before .before .before .before .before .before .before .before .before .before .before .word .ensures .1) (r .ensures .0))
+    (residual-left p s 1 _ (c .before .before .before .before .before .before .before .before .before .before .word2 .result) _ (omega (arith, long2, ok .length)) k (c .before .before .before .before .before .before .before .before .before .before .word2 .ensures .1) (r .ensures .1))
+    (residual-left p s 2 _ (c .before .before .before .before .before .before .before .before .before .word3 .result) _ (omega (arith, long3, ok .length)) k (c .before .before .before .before .before .before .before .before .before .word3 .ensures .1) (r .ensures .2))
 
 pub remainders-spec : {M : Type 1} → statement M
 remainders-spec =
     tie.close
     (tie.spec
-    Inv-loop
-    μ-loop
+    returns
     cast-n
-    cast-v
     cast-first
     mul-first
+    word-requires
+    word-requires-2
+    word-requires-3
     further-requires
-    loop-holds
-    nested-word-requires
-    array-share-prefix-word
-    slice-aggregate-residue
-    residue-requires
-    mul-out
+    array-share-prefix-a
+    slice-aggregate-residues
+    array-share-prefix-b
+    slice-aggregate-residues-2
+    array-share-prefix-c
+    slice-aggregate-residues-3
+    array-share-prefix-d
+    slice-aggregate-residues-4
+    residues-requires
     array-set-from-out
-    add-l
-    loop-less
-    loop-again
-    returns)
+    array-set-from-out-2
+    array-set-from-out-3
+    returns-2)
