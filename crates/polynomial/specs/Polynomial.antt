@@ -3,9 +3,11 @@
 --   poly l   the polynomial of an array of 49 coefficients
 --   row l    a table of 48 syndromes: the sequence that it holds, then zeros
 --
--- Both cut what an array cannot hold, so that they have their degree whatever the list is.
+--   Clear f m n   coefficients m to n − 1 of f are zero
 --
--- Proved: coefficients that are zero, one by one and from there on (clear-more, below-clear).
+-- The first two cut what an array cannot hold, so that they have their degree whatever the list is.
+--
+-- Proved: a loop over coefficients that are zero goes on by clear-more and ends by below-clear; a product by zero is zero (none-⊠).
 use Prim.Native.Nat.{ℕ, _+_, _≤_, _<_}
 use mathlib.Core.Path.{_≡_, sym, ap, ap₂, _∙_}
 use mathlib.Core.Bool.{Bool, true}

@@ -1,3 +1,3 @@
--- Zero is what `is_zero` promises of; Turned proves `convolve`.
+-- Zero is what `is_zero` promises of; Turned what `turned` promises of, and it proves `convolve`.
 pub mod Zero
 pub mod Turned

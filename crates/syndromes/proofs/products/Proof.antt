@@ -1,6 +1,6 @@
 -- Entry q gets f[q]·t[at + q]; past the extent f is zero.
 use Prim.Native.Nat.{_+_, _-_}
-use mathlib.Core.Path.{_≡_, sym, ap₂, _∙_}
+use mathlib.Core.Path.{sym, ap₂, _∙_}
 use native.Mathlib.Omega.{arith}
 use Rattle.field.specs.Field.{_⊙_, val-of}
 use Rattle.series.specs.Array.{bytes, read-at, Filled, filled-none, filled-more}

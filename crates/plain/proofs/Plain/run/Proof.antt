@@ -1,6 +1,6 @@
 -- Before iteration r, r - from turns are made.
-use Prim.Native.Nat.{ℕ, _+_, _-_, _≤_}
-use mathlib.Core.Path.{_≡_, sym, ap, _∙_}
+use Prim.Native.Nat.{_+_, _-_, _≤_}
+use mathlib.Core.Path.{_≡_, sym, _∙_}
 use native.Mathlib.Omega.{arith}
 use Rattle.series.specs.Series.{Series}
 use Rattle.series.specs.Degree.{below}
