@@ -105,7 +105,7 @@ fn advance(rows: &[[u8; 256]; TERMS], at: &mut [u8], k: usize) -> Gf
     Gf(v)
 }
 
-// The value of a word at w: by products where the word is short, else by a row of products, which costs as much as five of them.
+// The value of a word at w: by products where the word is short, else by a row of products, which costs as much as a few of them.
 fn value_at(w: Gf, word: &[u8]) -> Gf
     ensures { λ r. ⌜ val r ≡ value (length (now (word .entry))) (bytes (now (word .entry))) (val w) ⌝ }
 {
