@@ -9,7 +9,7 @@
 use Prim.Native.Nat.{ℕ, zero, suc, _+_, _-_, _≤_, _<_}
 use mathlib.Core.Path.{_≡_, refl, sym, ap, ap₂, _∙_, fun-ext}
 use mathlib.Core.List.{List}
-use native.Mathlib.Nat.{zero-add, add-zero, add-suc, suc-add, sub-zero}
+use native.Mathlib.Nat.{zero-add, add-zero, add-suc, suc-add}
 use native.Mathlib.Omega.{arith}
 use lib.ListN.{replicate}
 use Rattle.field.specs.Field.{F, 𝟎, 𝟏, α, _⊕_, _⊙_, zero-⊕, ⊕-comm, zero-⊙, ⊙-one, one-⊙, ⊙-assoc, ⊙-ring, inv, mul-inv, pow, pow-zero, pow-suc}

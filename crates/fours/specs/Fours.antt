@@ -9,7 +9,7 @@ use native.Mathlib.Omega.{arith}
 use lib.ListN.{length, take, replicate, length-replicate}
 use lib.Seq.{length-take-le}
 use Rattle.field.specs.Field.{of, of-zero}
-use Rattle.series.specs.Series.{Series, O, _⊞_, _⊠_, ⊞-zero, ⊞-group, one-⊠}
+use Rattle.series.specs.Series.{Series, O, _⊞_, _⊠_, ⊞-zero, one-⊠}
 use Rattle.series.specs.Shift.{zpow, zpow-zero, cut, drop, drop-none}
 use Rattle.series.specs.Degree.{below, below-zpow, below-⊠, below-⊞, below-weaken, below-cut-eq}
 use Rattle.series.specs.Array.{bytes, below-read}

@@ -1,5 +1,4 @@
 -- Nothing, or the corner without the subword itself.
-use native.Mathlib.Omega.{arith}
 use Rattle.code.specs.Combined.{carried-none}
 use Rattle.carry.specs.Pascal.{carried-is}
 use borrow.Author.Needs.{needs}

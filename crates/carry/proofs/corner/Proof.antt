@@ -3,7 +3,6 @@ use Prim.Native.Nat.{suc, _-_, _≤_, _<_}
 use mathlib.Core.Path.{_≡_, refl, sym}
 use native.Mathlib.Omega.{arith}
 use lib.ListN.{length}
-use Rattle.series.specs.Shift.{cut}
 use Rattle.series.specs.Array.{bytes}
 use Rattle.carry.specs.Pascal.{Gathers, gathers-none, gathers-first, gathers-next, gathers-all}
 use borrow.Author.Needs.{needs}

@@ -6,7 +6,7 @@ use lib.ListN.{length, drop, length-drop}
 use lib.Seq.{length-take-le}
 use Rattle.series.specs.Array.{bytes}
 use Rattle.profile.specs.Definition.{data-start}
-use Rattle.profile.specs.Valid.{checks-some, checks-most, data-size-is}
+use Rattle.profile.specs.Valid.{checks-some, checks-most}
 use Rattle.code.specs.Check.{Fits}
 use Rattle.code.specs.Right.{all-right}
 use Rattle.generator.specs.Table.{Made, table-for}

@@ -2,8 +2,7 @@
 use Prim.Native.Nat.{_+_, _-_, _≤_}
 use mathlib.Core.Path.{_≡_, refl, sym, _∙_}
 use native.Mathlib.Omega.{arith}
-use lib.ListN.{length, drop, length-drop}
-use lib.Seq.{length-take-le}
+use lib.ListN.{length}
 use Rattle.series.specs.Array.{bytes}
 use Rattle.profile.specs.Definition.{data-start}
 use Rattle.profile.specs.Valid.{checks-room, data-size-is}
@@ -51,7 +50,6 @@ sub-d c =
     let (i-le, end-is, fits, right) = now .inv in
     let p = given .args .p in
     let k = given .args .k in
-    let one = p .length - k in
     let here = quarters p (fits .valid) _ (now .i) k (now .end) (c .loop-test .taken) i-le (given .pre .1) (given .pre .2) end-is in
     here .d-le
 
@@ -62,7 +60,6 @@ sub-c c =
     let (i-le, end-is, fits, right) = now .inv in
     let p = given .args .p in
     let k = given .args .k in
-    let one = p .length - k in
     let here = quarters p (fits .valid) _ (now .i) k (now .end) (c .loop-test .taken) i-le (given .pre .1) (given .pre .2) end-is in
     here .c-le
 
@@ -73,7 +70,6 @@ sub-b c =
     let (i-le, end-is, fits, right) = now .inv in
     let p = given .args .p in
     let k = given .args .k in
-    let one = p .length - k in
     let here = quarters p (fits .valid) _ (now .i) k (now .end) (c .loop-test .taken) i-le (given .pre .1) (given .pre .2) end-is in
     here .b-le
 
@@ -84,7 +80,6 @@ sub-a c =
     let (i-le, end-is, fits, right) = now .inv in
     let p = given .args .p in
     let k = given .args .k in
-    let one = p .length - k in
     let here = quarters p (fits .valid) _ (now .i) k (now .end) (c .loop-test .taken) i-le (given .pre .1) (given .pre .2) end-is in
     here .a-le
 
@@ -101,7 +96,6 @@ part-write-four-end c =
     let (i-le, end-is, fits, right) = now .inv in
     let p = given .args .p in
     let k = given .args .k in
-    let one = p .length - k in
     let here = quarters p (fits .valid) _ (now .i) k (now .end) (c .loop-test .taken) i-le (given .pre .1) (given .pre .2) end-is in
     omega (arith, here .end-le)
 
@@ -118,7 +112,6 @@ part-write-four-end-2 c =
     let (i-le, end-is, fits, right) = now .inv in
     let p = given .args .p in
     let k = given .args .k in
-    let one = p .length - k in
     let here = quarters p (fits .valid) _ (now .i) k (now .end) (c .before .loop-test .taken) i-le (given .pre .1) (given .pre .2) end-is in
     omega (arith, here .end-le)
 
@@ -135,7 +128,6 @@ part-write-four-end-3 c =
     let (i-le, end-is, fits, right) = now .inv in
     let p = given .args .p in
     let k = given .args .k in
-    let one = p .length - k in
     let here = quarters p (fits .valid) _ (now .i) k (now .end) (c .before .before .loop-test .taken) i-le (given .pre .1) (given .pre .2) end-is in
     omega (arith, here .end-le)
 
@@ -152,7 +144,6 @@ part-write-four-end-4 c =
     let (i-le, end-is, fits, right) = now .inv in
     let p = given .args .p in
     let k = given .args .k in
-    let one = p .length - k in
     let here = quarters p (fits .valid) _ (now .i) k (now .end) (c .before .before .before .loop-test .taken) i-le (given .pre .1) (given .pre .2) end-is in
     omega (arith, here .end-le)
 

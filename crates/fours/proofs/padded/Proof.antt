@@ -1,6 +1,5 @@
 -- The data are added to zeros.
-use mathlib.Core.Path.{_≡_, ap, _∙_}
-use native.Mathlib.Omega.{arith}
+use mathlib.Core.Path.{ap, _∙_}
 use Rattle.series.specs.Series.{Series, _⊞_, _⊠_, zero-⊞}
 use Rattle.series.specs.Shift.{zpow}
 use Rattle.series.specs.Array.{bytes}

@@ -1,5 +1,5 @@
 -- The data in words, and the words' remainders.
-use mathlib.Core.Path.{_≡_, sym, _∙_}
+use mathlib.Core.Path.{sym, _∙_}
 use native.Mathlib.Omega.{arith}
 use lib.Seq.{length-take-le}
 use Rattle.fours.specs.Fours.{known-is}
