@@ -1,4 +1,4 @@
-// Polynomials over GF(256) with at most 49 coefficients: sums, scalars and values.
+// Polynomials over GF(256) with at most 49 coefficients: sums and scalars.
 // A loop of products runs 16 at a time, and only over coefficients that may differ from zero.
 // The promises are equations of power series: `poly f` is the array f as a polynomial. A table of 48 syndromes is a sequence, `row s`.
 ghost use Prim.Native.Nat.{_≤_};
@@ -7,7 +7,6 @@ ghost use mathlib.Core.Bool.{true};
 ghost use Rattle.field.specs.Field.{val};
 ghost use Rattle.series.specs.Series.{O, K, _⊞_, _⊠_};
 ghost use Rattle.series.specs.Degree.{below};
-ghost use Rattle.series.specs.Value.{value};
 ghost use Rattle.polynomial.specs.Polynomial.{poly, Clear};
 use field::Gf;
 
@@ -102,18 +101,4 @@ pub fn combine(a: Gf, f: [Gf; COEFFICIENTS], b: Gf, g: [Gf; COEFFICIENTS]) -> [G
     }
     let q = scale(b, g);
     sum(p, q)
-}
-
-// By Horner's rule, from the top.
-pub fn value_at(f: [Gf; COEFFICIENTS], x: Gf) -> Gf
-    ensures { λ r. ⌜ val r ≡ value 49 (poly f) (val x) ⌝ }
-{
-    let mut v = Gf::ZERO;
-    let mut i: usize = COEFFICIENTS;
-    while i > 0 {
-        i = i - 1;
-        let p = x.product(v);
-        v = p.sum(f[i]);
-    }
-    v
 }

@@ -1,8 +1,7 @@
-// Polynomials of 49 coefficients whose terms are moved or left out: times z, over z, the odd part.
+// Polynomials of 49 coefficients whose terms are moved: times z, over z.
 ghost use mathlib.Core.Path.{_≡_};
 ghost use Rattle.series.specs.Series.{Z, _⊠_, tail};
 ghost use Rattle.series.specs.Shift.{cut};
-ghost use Rattle.series.specs.Value.{odd};
 ghost use Rattle.polynomial.specs.Polynomial.{poly};
 use field::Gf;
 use polynomial::COEFFICIENTS;
@@ -32,19 +31,6 @@ pub fn over_z(f: [Gf; COEFFICIENTS]) -> [Gf; COEFFICIENTS]
     while i < DEGREE {
         out[i] = f[i + 1];
         i = i + 1;
-    }
-    out
-}
-
-// The terms of odd degree; the others stay zero.
-pub fn odd_part(f: [Gf; COEFFICIENTS]) -> [Gf; COEFFICIENTS]
-    ensures { λ r. ⌜ poly r ≡ odd (poly f) ⌝ }
-{
-    let mut out = [Gf::ZERO; COEFFICIENTS];
-    let mut i: usize = 1;
-    while i < COEFFICIENTS {
-        out[i] = f[i];
-        i = i + 2;
     }
     out
 }
