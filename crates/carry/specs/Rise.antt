@@ -1,19 +1,17 @@
--- A word times a factor and another word, symbol by symbol; a subword added to a word.
+-- A word times a factor and another word, symbol by symbol.
 --
 --   change c f g   what turns f into c times f, and g
-use Prim.Native.Nat.{ℕ, _+_, _*_, _≤_, _<_}
-use mathlib.Core.Path.{_≡_, refl, sym, ap, ap₂, _∙_}
-use mathlib.Core.List.{List, _++_}
+use Prim.Native.Nat.{ℕ, _+_, _≤_, _<_}
+use mathlib.Core.Path.{_≡_, sym, ap, ap₂, _∙_}
+use mathlib.Core.List.{List}
 use native.Mathlib.Omega.{arith}
-use lib.ListN.{length, set, take, drop}
+use lib.ListN.{length, set}
 use Rattle.field.specs.Field.{F, 𝟏, _⊕_, _⊙_, ⊕-zero, ⊙-zero, ⊙-ring, of, of-zero}
-use Rattle.series.specs.Series.{Series, K, _⊞_, _⊠_, ⊠-ring, ⊞-at, K-⊠-at, K-⊕, one-⊠}
+use Rattle.series.specs.Series.{Series, K, _⊞_, _⊠_, ⊠-ring, ⊞-at, K-⊠-at, K-⊕}
 use Rattle.series.specs.Shift.{cut, cut-high}
 use Rattle.series.specs.Degree.{below, below-⊞, below-K-⊠, below-weaken, below-cut-eq}
 use Rattle.series.specs.Array.{bytes, below-read}
 use Rattle.kernel.specs.Store.{multiple-none, multiple-more}
-use Rattle.code.specs.Definition.{subword}
-use Rattle.code.specs.Combined.{add-part}
 
 unfoldable pub change : F → Series → Series → Series
 change c f g = K (c ⊕ 𝟏) ⊠ f ⊞ g
@@ -48,9 +46,3 @@ rise-all c q w u h e = ap (λ (f : Series). bytes w ⊞ K 𝟏 ⊠ f) (below-cut
 
     shape : (f g : Series) → f ⊞ K 𝟏 ⊠ (K (c ⊕ 𝟏) ⊠ f ⊞ g) ≡ K c ⊠ f ⊞ g
     shape f g = rw K-⊕ (simp ⊠-ring)
-
--- subword i, added in the first n entries of w
-pub sum-part : (n i k : ℕ) (b w y : List ℕ) → k ≡ n → i * n + n ≤ length b → n ≤ length w → length y ≡ n
-    → bytes y ≡ bytes (take n w) ⊞ bytes (take k (drop (i * n) b)) → bytes (y ++ drop n w) ≡ bytes w ⊞ cut n (subword n (bytes b) i)
-sum-part n i k b w y ek hb hw ly e =
-    add-part n i k b w y 𝟏 𝟏 refl ek hb hw ly (e ∙ ap (λ (f : Series). bytes (take n w) ⊞ f) (sym (one-⊠ _))) ∙ ap (λ (f : Series). bytes w ⊞ f) (one-⊠ _)

@@ -8,7 +8,6 @@ ghost use Rattle.series.specs.Shift.{cut, drop};
 ghost use Rattle.series.specs.Array.{bytes};
 ghost use Rattle.profile.specs.Definition.{checks as Checks, room as Room};
 ghost use Rattle.generator.specs.Table.{Table};
-ghost use Rattle.code.specs.Definition.{subword};
 ghost use Rattle.code.specs.Triangle.{carried as Carried, corner as Corner};
 ghost use Rattle.code.specs.Check.{Fits};
 ghost use Rattle.carry.specs.Subword.{filled, Wrote};
@@ -42,17 +41,6 @@ fn rise(l: usize, last: usize, from: &[u8], word: &mut [u8])
     }
 }
 
-// Subword i of a block is added to the word.
-fn add_subword(p: Profile, block: &[u8], i: usize, word: &mut [u8])
-    requires { ⌜ Fits p (now block) × (i < p .subwords) × (p .length ≤ length (now word)) ⌝ }
-    ensures { λ _. ⌜ bytes (now (word .exit)) ≡ bytes (now (word .entry)) ⊞ cut (p .length) (subword (p .length) (bytes (now (block .entry))) i) ⌝ }
-{
-    let n = p.length as usize;
-    let a = i * n;
-    let e = a + n;
-    kernel::add(&block[a..e], &mut word[..n]);
-}
-
 // Subword i with what the subwords above bring to it, i below v. By Pascal's rule, from the last subword to the first: that takes doublings only, and the
 // subwords below i fall out.
 fn corner(p: Profile, i: usize, block: &[u8]) -> [u8; POSITIONS]
@@ -67,7 +55,7 @@ fn corner(p: Profile, i: usize, block: &[u8]) -> [u8; POSITIONS]
         j = j - 1;
         rise(2, i, &b, &mut c);
         rise(1, i, &a, &mut b);
-        add_subword(p, block, j, &mut a);
+        accumulate::add_subword(p, block, j, &mut a);
     }
     if i == 0 {
         return a;
@@ -87,7 +75,7 @@ fn carried(p: Profile, i: usize, block: &[u8]) -> [u8; POSITIONS]
         return [0u8; POSITIONS];
     }
     let mut word = corner(p, i, block);
-    add_subword(p, block, i, &mut word);
+    accumulate::add_subword(p, block, i, &mut word);
     word
 }
 

@@ -2,24 +2,24 @@
 --
 --   combined n s c a r   the sum of c k times subword k of the block s, over the r subwords from a on
 --
--- Proved: no subword and one subword more (combined-none, combined-more); what is carried to a subword is such a sum (carried-combined, carried-none); a
--- subword as a part of the bytes of a block (subword-part), and a multiple of it added to a word (add-part).
+-- Proved: no subword and one subword more (combined-none, combined-more); from subword v on nothing is carried (carried-none); a
+-- subword as a part of the bytes of a block (subword-part), and a multiple of it added to a word (add-part), or itself (sum-part).
 use Prim.Native.Nat.{ℕ, suc, _+_, _-_, _*_, _≤_, _<_}
 use mathlib.Core.Path.{_≡_, refl, sym, ap, ap₂, _∙_, fun-ext}
 use mathlib.Core.List.{List, _++_}
 use native.Mathlib.Decide.{decLt}
 use native.Mathlib.Omega.{arith}
 use lib.ListN.{length, take, drop as drop-list, replicate}
-use Rattle.field.specs.Field.{F, _⊕_, _⊙_, ⊕-zero, of, of-zero}
+use Rattle.field.specs.Field.{F, 𝟏, _⊕_, _⊙_, ⊕-zero, of, of-zero}
 use Rattle.series.specs.Sum.{sum, sum-none, sum-suc}
-use Rattle.series.specs.Series.{Series, O, O-at, K, _⊞_, _⊠_, ⊞-at, K-⊠-at}
+use Rattle.series.specs.Series.{Series, O, O-at, K, _⊞_, _⊠_, ⊞-at, K-⊠-at, one-⊠}
 use Rattle.series.specs.Shift.{cut, cut-none, cut-unique, cut-⊞, cut-K-⊠, drop, drop-at}
 use Rattle.series.specs.Degree.{below-O, below-cut, below-cut-eq, below-K-⊠}
 use Rattle.series.specs.Array.{bytes, read-zeros}
 use Rattle.series.specs.Part.{read-take, read-drop, read-left, read-right, read-part}
 use Rattle.profile.specs.declared.Profile.{Profile}
 use Rattle.code.specs.Definition.{subword}
-use Rattle.code.specs.Triangle.{ratio, carried, carried-high}
+use Rattle.code.specs.Triangle.{carried, carried-high}
 
 unfoldable pub combined : ℕ → Series → (ℕ → F) → ℕ → ℕ → Series
 combined n s c a r q = sum r (λ k. c (a + k) ⊙ subword n s (a + k) q)
@@ -55,10 +55,6 @@ module _ (n : ℕ) (s : Series) (c : ℕ → F) (a : ℕ) where
       ∙ cut-⊞ n _ _
       ∙ ap (λ (t : Series). cut n (combined n s c a (k - a)) ⊞ t) (cut-K-⊠ n _ _)
       ∙ ap (λ (i : ℕ). cut n (combined n s c a (k - a)) ⊞ K (c i) ⊠ cut n (subword n s i)) f)
-
-pub carried-combined : (p : Profile) (s : Series) (i : ℕ) → combined (p .length) s (ratio (p .nested) i) (suc i) (p .subwords - suc i) ≡ carried p s i
-unfolding combined carried
-carried-combined p s i = refl
 
 -- from subword v on zeros are carried
 pub carried-none : (p : Profile) (s : Series) (i r : ℕ) → p .nested ≤ i → bytes (replicate r 0) ≡ cut (p .length) (carried p s i)
@@ -104,3 +100,9 @@ add-part n i k b w y f c ef ek hb hw ly e = fun-ext (λ q. go q (decLt q n) ∙ 
         ∙ read-drop of 0 n w (q - n)
         ∙ ap (bytes w) x
         ∙ sym (ap (λ t. bytes w q ⊕ t) (below-K-⊠ n c g (below-cut n _) q (omega arith)) ∙ ⊕-zero _)
+
+-- the subword as it is
+pub sum-part : (n i k : ℕ) (b w y : List ℕ) → k ≡ n → i * n + n ≤ length b → n ≤ length w → length y ≡ n
+    → bytes y ≡ bytes (take n w) ⊞ bytes (take k (drop-list (i * n) b)) → bytes (y ++ drop-list n w) ≡ bytes w ⊞ cut n (subword n (bytes b) i)
+sum-part n i k b w y ek hb hw ly e =
+    add-part n i k b w y 𝟏 𝟏 refl ek hb hw ly (e ∙ ap (λ (f : Series). bytes (take n w) ⊞ f) (sym (one-⊠ _))) ∙ ap (λ (f : Series). bytes w ⊞ f) (one-⊠ _)

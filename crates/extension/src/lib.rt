@@ -3,12 +3,9 @@
 ghost use Prim.Native.Nat.{_≤_, _<_};
 ghost use mathlib.Core.Path.{_≡_};
 ghost use lib.ListN.{length};
-ghost use Rattle.field.specs.Field.{𝟏, val};
-ghost use Rattle.series.specs.Series.{K, _⊞_, _⊠_};
 ghost use Rattle.series.specs.Shift.{cut};
 ghost use Rattle.series.specs.Array.{bytes};
 ghost use Rattle.polynomial.specs.Polynomial.{row as Row};
-ghost use Rattle.code.specs.Definition.{subword};
 ghost use Rattle.code.specs.Check.{Fits, table as Table};
 ghost use Rattle.staged.specs.Definition.{Progress, extend as Extend};
 ghost use Rattle.lagrange.specs.Definition.{flag};
@@ -18,29 +15,6 @@ use code::SUBWORDS;
 use field::Gf;
 use polynomial::SYNDROMES;
 use profile::Profile;
-
-// Subword i is added as it is.
-fn add_plain(p: Profile, block: &[u8], i: usize, word: &mut [u8])
-    requires { ⌜ Fits p (now block) × (i < p .subwords) × (p .length ≤ length (now word)) ⌝ }
-    ensures { λ _. ⌜ bytes (now (word .exit)) ≡ bytes (now (word .entry)) ⊞ K 𝟏 ⊠ cut (p .length) (subword (p .length) (bytes (now (block .entry))) i) ⌝ }
-{
-    let n = p.length as usize;
-    let a = i * n;
-    let e = a + n;
-    kernel::add(&block[a..e], &mut word[..n]);
-}
-
-// c times subword i is added. Where one subword is unsettled every factor is one, and no row of products is made.
-fn add_multiple(p: Profile, c: Gf, block: &[u8], i: usize, word: &mut [u8])
-    requires { ⌜ Fits p (now block) × (i < p .subwords) × (p .length ≤ length (now word)) ⌝ }
-    ensures { λ _. ⌜ bytes (now (word .exit)) ≡ bytes (now (word .entry)) ⊞ K (val c) ⊠ cut (p .length) (subword (p .length) (bytes (now (block .entry))) i) ⌝ }
-{
-    if c.0 == 1 {
-        add_plain(p, block, i, word);
-        return;
-    }
-    nested::add_subword(p, c, block, i, word);
-}
 
 // The word whose syndromes are those of the unsettled subword i.
 fn merge(p: Profile, pending: [bool; SUBWORDS], block: &[u8], i: usize) -> [u8; POSITIONS]
@@ -52,7 +26,7 @@ fn merge(p: Profile, pending: [bool; SUBWORDS], block: &[u8], i: usize) -> [u8; 
     let mut k: usize = 0;
     while k < m {
         let c = lagrange::lagrange(p, pending, i, k);
-        add_multiple(p, c, block, k, &mut word);
+        accumulate::add_multiple(p, c, block, k, &mut word);
         k = k + 1;
     }
     word

@@ -1,28 +1,15 @@
-// Nested words of a block, and multiples of its subwords.
+// Nested words of a block, document 01's nested sums.
 ghost use Prim.Native.Nat.{_≤_, _<_};
 ghost use mathlib.Core.Path.{_≡_};
 ghost use lib.ListN.{length};
-ghost use Rattle.field.specs.Field.{α, pow, val};
+ghost use Rattle.field.specs.Field.{α, pow};
 ghost use Rattle.series.specs.Series.{O, K, _⊞_, _⊠_};
 ghost use Rattle.series.specs.Shift.{cut};
 ghost use Rattle.series.specs.Array.{bytes};
-ghost use Rattle.code.specs.Definition.{subword, nested as Nested};
+ghost use Rattle.code.specs.Definition.{nested as Nested};
 ghost use Rattle.code.specs.Check.{Fits};
 use code::POSITIONS;
-use field::Gf;
 use profile::Profile;
-
-// c times subword i of a block is added to the word.
-pub fn add_subword(p: Profile, c: Gf, block: &[u8], i: usize, word: &mut [u8])
-    requires { ⌜ Fits p (now block) × (i < p .subwords) × (p .length ≤ length (now word)) ⌝ }
-    ensures { λ _. ⌜ bytes (now (word .exit)) ≡ bytes (now (word .entry)) ⊞ K (val c) ⊠ cut (p .length) (subword (p .length) (bytes (now (block .entry))) i) ⌝ }
-{
-    let n = p.length as usize;
-    let row = kernel::product_row(c);
-    let a = i * n;
-    let e = a + n;
-    kernel::add_multiple(&row, &block[a..e], &mut word[..n]);
-}
 
 // α times each symbol.
 fn double(word: &mut [u8])

@@ -8,8 +8,8 @@ use Rattle.kernel.specs.Row.{row-products, factor-products}
 use Rattle.code.specs.Check.{inside, part-length}
 use Rattle.code.specs.Combined.{add-part}
 use borrow.Author.Needs.{needs}
-use Rattle.nested.proofs.add_subword.Statement.{statement}
-use Rattle.nested.proofs.add_subword.Tie as tie
+use Rattle.accumulate.proofs.add_by_row.Statement.{statement}
+use Rattle.accumulate.proofs.add_by_row.Tie as tie
 
 cast-n : tie.Need-cast-n
 cast-n c = search needs
@@ -73,8 +73,8 @@ returns c =
     (omega (arith, c .before .word .given, length-take-le n (given .args .word .now) (given .pre .2)))
     (c .before .before .add-multiple .ensures)
 
-pub add-subword-spec : {M : Type 1} → statement M
-add-subword-spec =
+pub add-by-row-spec : {M : Type 1} → statement M
+add-by-row-spec =
     tie.close
     (tie.spec
     cast-n

@@ -5,10 +5,10 @@ use native.Mathlib.Nat.{add-sub-cancel-left}
 use native.Mathlib.Omega.{arith}
 use lib.Seq.{length-take-le}
 use Rattle.code.specs.Check.{inside, part-length}
-use Rattle.carry.specs.Rise.{sum-part}
+use Rattle.code.specs.Combined.{sum-part}
 use borrow.Author.Needs.{needs}
-use Rattle.carry.proofs.add_subword.Statement.{statement}
-use Rattle.carry.proofs.add_subword.Tie as tie
+use Rattle.accumulate.proofs.add_subword.Statement.{statement}
+use Rattle.accumulate.proofs.add_subword.Tie as tie
 
 cast-n : tie.Need-cast-n
 cast-n c = search needs
