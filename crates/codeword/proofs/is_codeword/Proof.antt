@@ -1,6 +1,6 @@
 -- All nested words before l vanish, and syndromes 2 t0 to j - 1 of nested word l are zero.
-use Prim.Native.Nat.{ℕ, _-_, _*_, _≤_, _<_}
-use mathlib.Core.Path.{_≡_, refl, sym, ap, _∙_}
+use Prim.Native.Nat.{ℕ, _-_, _≤_, _<_}
+use mathlib.Core.Path.{_≡_, refl, sym, _∙_}
 use mathlib.Core.Logic.{by-cases}
 use mathlib.Core.Bool.{true}
 use native.Mathlib.Decide.{decLt}
@@ -12,7 +12,7 @@ use Rattle.series.specs.Array.{bytes}
 use Rattle.profile.specs.Laws.{unless, meets}
 use Rattle.profile.specs.Valid.{checks-most}
 use Rattle.reed_solomon.specs.Definition.{syndrome}
-use Rattle.codeword.specs.Definition.{left, Vanish}
+use Rattle.codeword.specs.Definition.{Vanish}
 use Rattle.codeword.specs.Laws.{word-syndrome, check-passes, check-fails}
 use borrow.Author.Needs.{needs}
 use Rattle.codeword.proofs.is_codeword.Statement.{statement}
