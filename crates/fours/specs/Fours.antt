@@ -21,7 +21,7 @@ use Rattle.reed_solomon.specs.Definition.{systematic}
 use Rattle.reed_solomon.specs.Residue.{residue, Residual, below-residue, residue-systematic}
 use Rattle.code.specs.Check.{Fits, inside}
 use Rattle.code.specs.Combined.{carried-none}
-use Rattle.code.specs.Horner.{prefix-zeros}
+use Rattle.nested.specs.Horner.{prefix-zeros}
 use Rattle.carry.specs.Subword.{filled, Wrote, wrote-is}
 
 pub record Known (n k : ℕ) (d r : List ℕ) : Type 0 where

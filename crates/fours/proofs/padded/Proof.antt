@@ -3,7 +3,7 @@ use mathlib.Core.Path.{ap, _∙_}
 use Rattle.series.specs.Series.{Series, _⊞_, _⊠_, zero-⊞}
 use Rattle.series.specs.Shift.{zpow}
 use Rattle.series.specs.Array.{bytes}
-use Rattle.code.specs.Horner.{zeros}
+use Rattle.nested.specs.Horner.{zeros}
 use borrow.Author.Needs.{needs}
 use Rattle.fours.proofs.padded.Statement.{statement}
 use Rattle.fours.proofs.padded.Tie as tie
