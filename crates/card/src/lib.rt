@@ -2,14 +2,20 @@
 // stands in the crate `printed`, specs/Turn.antt and specs/Whole.antt.
 ghost use Prim.Native.Nat.{_<_};
 ghost use mathlib.Core.Path.{_≡_};
-ghost use mathlib.Core.Bool.{true};
+ghost use mathlib.Core.Bool.{true, _&&_};
+ghost use lib.Dec.{eqb};
 ghost use lib.ListN.{length};
-ghost use Rattle.section.specs.Definition.{good, size as SizeOf, Takes};
+ghost use Rattle.profile.specs.Definition.{block-size};
+ghost use Rattle.section.specs.Definition.{accepts, good, size as SizeOf, Takes};
 ghost use Rattle.printed.specs.Turn.{whole as Whole, cut as Cut, Turns};
+ghost use Rattle.card.specs.Definition.{Made, Kept};
 use listing::LINE;
 use profile::Profile;
 use section::Section;
 use section::Turn;
+
+// The entries of a table.
+pub const TABLE: usize = block_line::TABLE;
 
 // A section is not whole.
 const CUT: u8 = 11;
@@ -17,11 +23,26 @@ const CUT: u8 = 11;
 // A byte follows the last section.
 const BEYOND: u8 = 12;
 
-fn judge_block(p: Profile, i: u16, k: u16, block: &[u8], line: &mut [u8; LINE]) -> Turn
-    requires { ⌜ i < k ⌝ }
-    ensures { λ t. ⌜ Takes (Whole (Section.Block p i k) (now (block .entry))) (now (line .entry)) t (now (line .exit)) ⌝ }
+// Room for a table.
+fn room() -> [u64; TABLE] {
+    [0u64; TABLE]
+}
+
+fn judge_block(
+    p: Profile,
+    i: u16,
+    k: u16,
+    kept: bool,
+    t: &mut [u64; TABLE],
+    u: &mut [u64; TABLE],
+    block: &[u8],
+    line: &mut [u8; LINE],
+) -> Turn
+    requires { ⌜ (i < k) × (accepts p && eqb (length (now block)) (block-size p) ≡ true) × (kept ≡ true → Kept (Section.Block p i k) (now t) (now u)) ⌝ }
+    ensures { λ r. ⌜ Takes (Whole (Section.Block p i k) (now (block .entry))) (now (line .entry)) r (now (line .exit)) ⌝ }
+    ensures made { λ r. ⌜ Made (Section.Block p i k) (now (t .exit)) (now (u .exit)) ⌝ }
 {
-    let size = block_line::print(p, i, block, line);
+    let size = block_line::print(p, i, kept, t, u, block, line);
     Turn {
         next: section::block_or_end(p, i + 1, k),
         size: size,
@@ -29,15 +50,23 @@ fn judge_block(p: Profile, i: u16, k: u16, block: &[u8], line: &mut [u8; LINE]) 
 }
 
 // A section that is whole.
-fn whole(s: Section, bytes: &[u8], line: &mut [u8; LINE]) -> Turn
-    requires { ⌜ (good s ≡ true) × (length (now bytes) ≡ SizeOf s) ⌝ }
-    ensures { λ t. ⌜ Takes (Whole s (now (bytes .entry))) (now (line .entry)) t (now (line .exit)) ⌝ }
+fn whole(
+    s: Section,
+    kept: bool,
+    t: &mut [u64; TABLE],
+    u: &mut [u64; TABLE],
+    bytes: &[u8],
+    line: &mut [u8; LINE],
+) -> Turn
+    requires { ⌜ (good s ≡ true) × (length (now bytes) ≡ SizeOf s) × (kept ≡ true → Kept s (now t) (now u)) ⌝ }
+    ensures { λ r. ⌜ Takes (Whole s (now (bytes .entry))) (now (line .entry)) r (now (line .exit)) ⌝ }
+    ensures made { λ r. ⌜ Made s (now (t .exit)) (now (u .exit)) ⌝ }
 {
     match s {
         Section::Size => heading::judge_size(bytes[0], line),
         Section::Bytes => heading::judge_bytes(bytes, line),
         Section::Count(p) => heading::judge_count(p, bytes[0], bytes[1], line),
-        Section::Block(p, i, k) => judge_block(p, i, k, bytes, line),
+        Section::Block(p, i, k) => judge_block(p, i, k, kept, t, u, bytes, line),
         Section::End => heading::refuse(BEYOND, line),
         Section::Over => Turn {
             next: Section::Over,
@@ -59,15 +88,34 @@ fn cut(s: Section, line: &mut [u8; LINE]) -> Turn
     heading::refuse(CUT, line)
 }
 
-// The section that comes next is judged: as many bytes as are wanted, or fewer, if those are the last of the card. Bytes beyond those that are wanted are of no
-// interest, and a section that no card leads to is taken for the last, for which nothing is printed.
-pub fn judge(s: Section, bytes: &[u8], line: &mut [u8; LINE]) -> Turn
-    ensures { λ t. ⌜ Turns s (now (bytes .entry)) (now (line .entry)) t (now (line .exit)) ⌝ }
+// Judges as `judge` does, with room lent for the tables that blocks are divided by. Whoever lends the same room turn after turn says `kept`, and the tables are
+// made once for a card.
+pub fn judge_kept(
+    s: Section,
+    kept: bool,
+    t: &mut [u64; TABLE],
+    u: &mut [u64; TABLE],
+    bytes: &[u8],
+    line: &mut [u8; LINE],
+) -> Turn
+    requires { ⌜ (kept ≡ true → Kept s (now t) (now u)) ⌝ }
+    ensures { λ r. ⌜ Turns s (now (bytes .entry)) (now (line .entry)) r (now (line .exit)) ⌝ }
+    ensures kept { λ r. ⌜ Kept (r .next) (now (t .exit)) (now (u .exit)) ⌝ }
 {
     let n = section::wanted(s);
     let r = section::known(s);
     if bytes.len() < n {
         return cut(r, line);
     }
-    whole(r, &bytes[..n], line)
+    whole(r, kept, t, u, &bytes[..n], line)
+}
+
+// The section that comes next is judged: as many bytes as are wanted, or fewer, if those are the last of the card. Bytes beyond those that are wanted are of no
+// interest, and a section that no card leads to is taken for the last, for which nothing is printed.
+pub fn judge(s: Section, bytes: &[u8], line: &mut [u8; LINE]) -> Turn
+    ensures { λ t. ⌜ Turns s (now (bytes .entry)) (now (line .entry)) t (now (line .exit)) ⌝ }
+{
+    let mut t = room();
+    let mut u = room();
+    judge_kept(s, false, &mut t, &mut u, bytes, line)
 }

@@ -1,9 +1,12 @@
 // Reads a card from standard input and prints its list: `blocks N`, a line for each block, and `card refused NUMBER` where the card is refused.
-// Every section and every line is judged by the crate `card`; here are only the reads and the writes. A card may be of any size, and is never held whole.
+// Every section and every line is judged by the crate `card`; here are only the reads and the writes. A card may be of any size, and is never held whole;
+// the tables that its blocks are divided by are made once.
 ghost use Prim.Native.Nat.{_<_};
 ghost use mathlib.Core.Path.{_≡_};
 ghost use mathlib.Core.Bool.{false};
 ghost use Rattle.section.specs.Definition.{over, left};
+ghost use Rattle.card.specs.Definition.{Kept};
+use card::TABLE;
 use listing::LINE;
 use section::SECTION;
 use section::Section;
@@ -18,24 +21,33 @@ fn blank() -> [u8; LINE] {
     [0u8; LINE]
 }
 
+// Room for a table.
+fn table() -> [u64; TABLE] {
+    [0u64; TABLE]
+}
+
 // Reads the section that comes next, prints its line, and tells what comes then.
-fn turn(s: Section, bytes: &mut [u8]) -> Section
+fn turn(s: Section, t: &mut [u64; TABLE], u: &mut [u64; TABLE], bytes: &mut [u8]) -> Section
+    requires { ⌜ Kept s (now t) (now u) ⌝ }
     ensures { λ r. ⌜ (over s ≡ false → left r < left s) ⌝ }
+    ensures kept { λ r. ⌜ Kept r (now (t .exit)) (now (u .exit)) ⌝ }
 {
     let got = io::read_full(0, bytes);
     let mut line = blank();
-    let t = card::judge(s, &bytes[..got], &mut line);
-    io::write_all(1, &line[..t.size]);
-    let next = t.next;
+    let r = card::judge_kept(s, true, t, u, &bytes[..got], &mut line);
+    io::write_all(1, &line[..r.size]);
+    let next = r.next;
     next
 }
 
 fn main() {
     let mut bytes = room();
+    let mut t = table();
+    let mut u = table();
     let mut s = Section::Size;
     while !section::is_over(s) {
         let n = section::wanted(s);
-        let next = turn(s, &mut bytes[..n]);
+        let next = turn(s, &mut t, &mut u, &mut bytes[..n]);
         s = next;
     }
 }

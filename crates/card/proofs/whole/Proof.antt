@@ -2,10 +2,11 @@
 use mathlib.Core.Path.{sym, ap, _∙_}
 use mathlib.Core.Bool.{and-eq-true-iff}
 use native.Mathlib.Omega.{arith}
-use borrow.Author.Tests.{ltb-true}
+use borrow.Author.Tests.{ltb-true, eq-eqb}
 use Rattle.section.specs.Definition.{good, size}
 use Rattle.section.specs.Laws.{takes-silent, takes-as}
 use Rattle.printed.specs.Turn.{whole}
+use Rattle.card.specs.Laws.{made-as, kept-as}
 use borrow.Author.Needs.{needs}
 use Rattle.card.proofs.whole.Statement.{statement}
 use Rattle.card.proofs.whole.Tie as tie
@@ -42,8 +43,10 @@ enum-known-s-2 c = search needs
 
 judge-block-requires : tie.Need-judge-block-requires
 judge-block-requires c κs =
-    let is = c .before .before .s2 .given .1 in
-    ltb-true _ _ (and-eq-true-iff _ _ .0 (sym (ap good is) ∙ c .before .before .before .before .before .pre .0) .0)
+    let is = c .before .before .before .before .s2 .given .1 in
+    let given = c .before .before .before .before .before .before .before in
+    let (low, accepted) = and-eq-true-iff _ _ .0 (sym (ap good is) ∙ given .pre .0) in
+    (ltb-true _ _ low, and-eq-true-iff _ _ .1 (accepted, eq-eqb _ _ (given .pre .1 ∙ ap size is)), λ e. kept-as _ _ (sym is) (given .pre .2 e))
 
 enum-told-3 : tie.Need-enum-told-3
 enum-told-3 c = search needs
@@ -55,22 +58,34 @@ enum-told-4 : tie.Need-enum-told-4
 enum-told-4 c = search needs
 
 returns : tie.Need-returns
-returns c = takes-as (sym (ap (λ s. whole s (c .before .before .before .before .before .before .args .bytes .now)) (c .before .before .before .enum-told .given .1))) (c .judge-size .ensures)
+returns c =
+    let is = c .before .before .before .enum-told .given .1 in
+    (takes-as (sym (ap (λ s. whole s (c .before .before .before .before .before .before .args .bytes .now)) is)) (c .judge-size .ensures), made-as _ _ is tt)
 
 returns-2 : tie.Need-returns-2
-returns-2 c = takes-as (sym (ap (λ s. whole s (c .before .before .before .before .before .args .bytes .now)) (c .before .before .enum-told2 .given .1))) (c .judge-bytes .ensures)
+returns-2 c =
+    let is = c .before .before .enum-told2 .given .1 in
+    (takes-as (sym (ap (λ s. whole s (c .before .before .before .before .before .args .bytes .now)) is)) (c .judge-bytes .ensures), made-as _ _ is tt)
 
 returns-3 : tie.Need-returns-3
-returns-3 c = takes-as (sym (ap (λ s. whole s (c .before .before .before .before .before .before .before .before .args .bytes .now)) (c .before .before .before .before .before .s .given .1))) (c .judge-count .ensures)
+returns-3 c =
+    let is = c .before .before .before .before .before .s .given .1 in
+    (takes-as (sym (ap (λ s. whole s (c .before .before .before .before .before .before .before .before .args .bytes .now)) is)) (c .judge-count .ensures), made-as _ _ is tt)
 
 returns-4 : tie.Need-returns-4
-returns-4 c = takes-as (sym (ap (λ s. whole s (c .before .before .before .before .before .before .args .bytes .now)) (c .before .before .before .s2 .given .1))) (c .judge-block .ensures)
+returns-4 c =
+    let is = c .before .before .before .before .before .s2 .given .1 in
+    (takes-as (sym (ap (λ s. whole s (c .before .before .before .before .before .before .before .before .args .bytes .now)) is)) (c .judge-block .ensures .0), made-as _ _ is (c .judge-block .ensures .1))
 
 returns-5 : tie.Need-returns-5
-returns-5 c = takes-as (sym (ap (λ s. whole s (c .before .before .before .before .before .args .bytes .now)) (c .before .before .enum-told3 .given .1))) (c .refuse .ensures)
+returns-5 c =
+    let is = c .before .before .enum-told3 .given .1 in
+    (takes-as (sym (ap (λ s. whole s (c .before .before .before .before .before .args .bytes .now)) is)) (c .refuse .ensures), made-as _ _ is tt)
 
 returns-6 : tie.Need-returns-6
-returns-6 c = takes-as (sym (ap (λ s. whole s (c .before .before .before .args .bytes .now)) (c .enum-told4 .given .1))) (takes-silent _ _)
+returns-6 c =
+    let is = c .enum-told4 .given .1 in
+    (takes-as (sym (ap (λ s. whole s (c .before .before .before .args .bytes .now)) is)) (takes-silent _ _), made-as _ _ is tt)
 
 pub whole-spec : {M : Type 1} → statement M
 whole-spec =

@@ -5,18 +5,25 @@ use lib.ListN.{length}
 use lib.Seq.{length-take-le, length-front}
 use Rattle.profile.specs.Laws.{unless}
 use Rattle.section.specs.Definition.{left}
+use Rattle.card.specs.Definition.{Kept}
 use borrow.Author.Needs.{needs}
 use Rattle.read_card.proofs.main.Statement.{statement}
 use Rattle.read_card.proofs.main.Tie as tie
 
 abbrev Inv-loop : tie.InvT-loop
-Inv-loop bytes₀ s₀ bytes s = length bytes ≡ 2040
+Inv-loop bytes₀ t₀ u₀ s₀ bytes t u s = (length bytes ≡ 2040) × Kept s t u
 
 abbrev μ-loop : tie.MeasureT-loop
-μ-loop bytes₀ s₀ bytes s = left s
+μ-loop bytes₀ t₀ u₀ s₀ bytes t u s = left s
 
 room-requires : tie.Need-room-requires Inv-loop μ-loop
 room-requires c κs = search needs
+
+table-requires : tie.Need-table-requires Inv-loop μ-loop
+table-requires c κs = search needs
+
+table-requires-2 : tie.Need-table-requires-2 Inv-loop μ-loop
+table-requires-2 c κs = search needs
 
 loop-holds : tie.Need-loop-holds Inv-loop μ-loop
 loop-holds c = search needs
@@ -31,19 +38,20 @@ array-borrow-prefix-bytes : tie.Need-array-borrow-prefix-bytes Inv-loop μ-loop
 array-borrow-prefix-bytes c = search needs
 
 slice-aggregate-turn : tie.Need-slice-aggregate-turn Inv-loop μ-loop
-slice-aggregate-turn c = sym (length-take-le _ _ (omega (arith, c .before .wanted .ensures .1, c .before .before .before .before .loop .inv)))
+slice-aggregate-turn c = sym (length-take-le _ _ (omega (arith, c .before .before .before .wanted .ensures .1, c .before .before .before .before .before .before .loop .inv .0)))
 
 turn-requires : tie.Need-turn-requires Inv-loop μ-loop
 turn-requires c κs = search needs
 
 loop-less : tie.Need-loop-less Inv-loop μ-loop
-loop-less c = c .before .turn .ensures (sym (c .before .before .before .before .before .is-over .ensures) ∙ unless _ (c .before .before .before .before .if1 .taken))
+loop-less c = c .before .turn .ensures .0 (sym (c .before .before .before .before .before .before .before .is-over .ensures) ∙ unless _ (c .before .before .before .before .before .before .if1 .taken))
 
 loop-again : tie.Need-loop-again Inv-loop μ-loop
 loop-again c =
-    let now = c .before .before .before .before .before .before .loop in
-    let wanted = c .before .before .before .wanted in
-    length-front (now .bytes) (c .before .turn .last .1 .0) (wanted .result) (c .before .turn .kept .1 .0) ∙ now .inv
+    let now = c .before .before .before .before .before .before .before .before .loop in
+    let wanted = c .before .before .before .before .before .wanted in
+    let turn = c .before .turn in
+    (length-front (now .bytes) (turn .last .1 .1 .1 .0) (wanted .result) (turn .kept .1 .1 .1 .0) ∙ now .inv .0, turn .ensures .1)
 
 returns : tie.Need-returns Inv-loop μ-loop
 returns c = search needs
@@ -55,6 +63,8 @@ main-spec =
     Inv-loop
     μ-loop
     room-requires
+    table-requires
+    table-requires-2
     loop-holds
     is-over-requires
     wanted-requires

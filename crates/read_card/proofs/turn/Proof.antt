@@ -11,20 +11,20 @@ read-full-requires c κs = search needs
 blank-requires : tie.Need-blank-requires
 blank-requires c κs = search needs
 
-slice-reshare-prefix-judge : tie.Need-slice-reshare-prefix-judge
-slice-reshare-prefix-judge c = search needs
+slice-reshare-prefix-judge-kept : tie.Need-slice-reshare-prefix-judge-kept
+slice-reshare-prefix-judge-kept c = search needs
 
-slice-aggregate-judge : tie.Need-slice-aggregate-judge
-slice-aggregate-judge c = search needs
+slice-aggregate-judge-kept : tie.Need-slice-aggregate-judge-kept
+slice-aggregate-judge-kept c = search needs
 
-judge-requires : tie.Need-judge-requires
-judge-requires c κs = search needs
+judge-kept-requires : tie.Need-judge-kept-requires
+judge-kept-requires c κs = search needs
 
 array-share-prefix-line : tie.Need-array-share-prefix-line
-array-share-prefix-line c = c .judge .ensures .size
+array-share-prefix-line c = c .judge-kept .ensures .0 .size
 
 slice-aggregate-write-all : tie.Need-slice-aggregate-write-all
-slice-aggregate-write-all c = sym (length-take-le _ _ (c .before .judge .ensures .size))
+slice-aggregate-write-all c = sym (length-take-le _ _ (c .before .judge-kept .ensures .0 .size))
 
 write-all-requires : tie.Need-write-all-requires
 write-all-requires c κs = search needs
@@ -41,9 +41,9 @@ turn-spec =
     (tie.spec
     read-full-requires
     blank-requires
-    slice-reshare-prefix-judge
-    slice-aggregate-judge
-    judge-requires
+    slice-reshare-prefix-judge-kept
+    slice-aggregate-judge-kept
+    judge-kept-requires
     array-share-prefix-line
     slice-aggregate-write-all
     write-all-requires

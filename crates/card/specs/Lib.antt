@@ -1,0 +1,3 @@
+-- Definition is what the promises speak of; Laws proves them.
+pub mod Definition
+pub mod Laws
