@@ -1,4 +1,4 @@
-// One Reed-Solomon word: roots, check symbols, the remainder by the generator.
+// One Reed-Solomon word: syndromes, check symbols, the remainder by the generator.
 // What the promises speak of stands in specs/Definition.antt: `systematic n k w` is the word w with its k check symbols in place.
 ghost use Prim.Native.Nat.{_+_, _-_, _≤_, _<_};
 ghost use mathlib.Core.Path.{_≡_};
