@@ -1,8 +1,8 @@
 -- Laws of the codeword check.
 --
 -- Proved: a table of syndromes that is zero says that the subwords are in the code of t0, and a codeword has such a table (zeros-subwords, not-zeros); then the nested words' syndromes below 2 t0 are zero
--- too, and the block is a codeword exactly if those from there on are (check-passes, check-fails); a nested word's syndromes are those of its remainder
--- (word-syndrome).
+-- too, and the block is a codeword exactly if those from there on are (check-passes, check-fails); a nested word's further syndromes are the values of
+-- its remainder (word-syndrome).
 use Prim.Native.Nat.{ℕ, zero, suc, _+_, _-_, _*_, _≤_, _<_}
 use mathlib.Core.Path.{_≡_, sym, ap, _∙_, subst}
 use mathlib.Core.Logic.{_≢_}
@@ -19,14 +19,13 @@ use Rattle.series.specs.Series.{Series, O, O-at}
 use Rattle.series.specs.Shift.{cut, cut-low, cut-unique}
 use Rattle.series.specs.Array.{bytes}
 use Rattle.series.specs.Decide.{holds, holds-yes, holds-no}
-use Rattle.series.specs.Value.{value-more, value-zero}
+use Rattle.polynomial.specs.Polynomial.{row}
 use Rattle.profile.specs.declared.Profile.{Profile}
 use Rattle.profile.specs.Definition.{capability, checks}
 use Rattle.profile.specs.Valid.{Valid, checks-is, checks-mono, checks-least, checks-most}
 use Rattle.generator.specs.Table.{Table}
-use Rattle.reed_solomon.specs.Definition.{root, syndrome}
-use Rattle.reed_solomon.specs.Systematic.{syndrome-is}
-use Rattle.reed_solomon.specs.Residue.{residue, Residual, below-residue, residue-syndrome}
+use Rattle.reed_solomon.specs.Definition.{syndrome}
+use Rattle.reed_solomon.specs.Residue.{residue, Residual, residue-array}
 use Rattle.code.specs.Definition.{nested, Codeword}
 use Rattle.code.specs.Block.{syndrome-nested}
 use Rattle.code.specs.Encoding.{codeword?}
@@ -84,20 +83,17 @@ module _ (p : Profile) (s : Series) (inner : Subwords p s) where
       go l u j q (yes low) = nested-low l j low
       go l u j q (no high) = h l u j (omega arith) (omega (arith, checks-is p l))
 
--- nested word l by its remainder, which the array r holds
-module _ (p : Profile) (s : Series) (ok : Valid p) (l : ℕ) (r : List ℕ) (long : length r ≡ 48) (is : bytes r ≡ left p s l) where
-  pub word-syndrome : (j : ℕ) → 2 * p .t0 ≤ j → j < checks p l → syndrome (length r) (bytes r) j ≡ syndrome (p .length) (nested p s l) j
+-- nested word l by the values x of its remainder, which the array r holds
+module _ (p : Profile) (s : Series) (ok : Valid p) (l k c : ℕ) (r : List ℕ) (x : List Gf) (count : k ≡ further p) (asked : c ≡ checks p l)
+    (holds-left : (length r ≡ 48) × (bytes r ≡ left p s l)) (is : row x ≡ cut c (syndrome (length (take k r)) (bytes (take k r)))) where
+  pub word-syndrome : (j : ℕ) → 2 * p .t0 ≤ j → j < checks p l → row x j ≡ syndrome (p .length) (nested p s l) j
   word-syndrome j low h =
       let e : 2 * p .t0 + (j - 2 * p .t0) ≡ j = omega arith in
-      ap (λ (f : Series). syndrome (length r) f j) is
-      ∙ syndrome-is (length r) _ j
-      ∙ value-more (further p) (length r) _ (root j) (below-residue (2 * p .t0) (p .length) (further p) (nested p s l)) (omega (arith, checks-most p ok 0))
-      ∙ (rw e at (residue-syndrome (2 * p .t0) (p .length) (further p) (nested p s l) (omega (arith, checks-least p ok 0, checks-most p ok 0)) (j - 2 * p .t0)
-      (omega (arith, checks-mono p ok 0 l (omega arith)))))
+      ap (λ (f : Series). f j) is
+      ∙ cut-low c _ j (omega (arith, asked))
+      ∙ ap (λ k. syndrome (length (take k r)) (bytes (take k r)) j) count
+      ∙ (rw e at (residue-array (2 * p .t0) (p .length) (further p) (nested p s l) (omega (arith, checks-least p ok 0, checks-most p ok 0)) r
+      (omega (arith, holds-left .0, checks-most p ok 0)) (holds-left .1) (j - 2 * p .t0) (omega (arith, checks-mono p ok 0 l (omega arith)))))
 
-  pub check-fails : (j : ℕ) → l < p .nested → 2 * p .t0 ≤ j → j < checks p l → syndrome (length r) (bytes r) j ≢ 𝟎 → false ≡ holds (codeword? p s)
+  pub check-fails : (j : ℕ) → l < p .nested → 2 * p .t0 ≤ j → j < checks p l → row x j ≢ 𝟎 → false ≡ holds (codeword? p s)
   check-fails j h low q n = sym (holds-no (codeword? p s) (λ c. n (word-syndrome j low q ∙ c .nested-words l h j (omega (arith, checks-is p l)))))
-
--- a remainder of which no syndrome is looked at
-pub none-looked : (r : List ℕ) (j : ℕ) → bytes r ≡ O → syndrome (length r) (bytes r) j ≡ 𝟎
-none-looked r j z = ap (λ (f : Series). syndrome (length r) f j) z ∙ syndrome-is (length r) O j ∙ value-zero (length r) O (root j) (λ i _. O-at i)

@@ -1,13 +1,11 @@
 // The codeword check, and the tables that a block is divided by. What the promises speak of stands in specs/Definition.antt.
-ghost use Prim.Native.Nat.{ℕ, _*_, _≤_, _<_};
+ghost use Prim.Native.Nat.{_*_, _<_};
 ghost use mathlib.Core.Path.{_≡_};
 ghost use lib.ListN.{length};
-ghost use Rattle.field.specs.Field.{𝟎};
 ghost use Rattle.series.specs.Shift.{cut};
 ghost use Rattle.series.specs.Array.{bytes};
 ghost use Rattle.series.specs.Decide.{holds};
 ghost use Rattle.profile.specs.Valid.{Valid};
-ghost use Rattle.reed_solomon.specs.Definition.{syndrome as Syndrome};
 ghost use Rattle.code.specs.Definition.{nested};
 ghost use Rattle.code.specs.Encoding.{codeword?};
 ghost use Rattle.code.specs.Check.{Fits, Subwords, table, received};
@@ -90,34 +88,25 @@ fn remainders(p: Profile, u: &[u64], block: &[u8]) -> [[u8; SYNDROMES]; NESTED]
     out
 }
 
-// How many syndromes of a remainder are looked at: none if it is zero, else all k.
-fn looked_at(r: &[u8], k: usize) -> usize
-    ensures most { λ l. ⌜ l ≤ k ⌝ }
-    ensures others { λ l. ⌜ ((j : ℕ) → l ≤ j → j < k → Syndrome (length (now (r .entry))) (bytes (now (r .entry))) j ≡ 𝟎) ⌝ }
-{
-    if reed_solomon::is_zero(r) {
-        return 0;
-    }
-    k
-}
-
 // Whether a block whose subwords are in the code of t0 is a codeword: the nested words and their syndromes from number 2 t0 on are walked up to the first
-// that is not zero. Those before are zero. The syndromes are those of a word's remainder.
+// that is not zero. Those before are zero. The syndromes are those of a word's remainder, found for all roots at once.
 pub fn is_codeword(p: Profile, u: &[u64], block: &[u8]) -> bool
     requires { ⌜ Fits p (now block) × Subwords p (bytes (now block)) × Further p (now u) ⌝ }
     ensures { λ r. ⌜ r ≡ holds (codeword? p (bytes (now (block .entry)))) ⌝ }
 {
     let v = p.nested as usize;
     let first = 2 * p.t0 as usize;
+    let k = further(p);
     let rows = remainders(p, u, block);
     let mut clean = true;
     let mut l: usize = 0;
     'sums: while l < v {
         let r = rows[l];
-        let looked = looked_at(&r, p.checks(l as u8) as usize);
+        let checks = p.checks(l as u8) as usize;
+        let row = values::at_roots(&r[..k], checks);
         let mut j: usize = first;
-        while j < looked {
-            let s = reed_solomon::syndrome(&r, j);
+        while j < checks {
+            let s = row[j];
             if !s.is_zero() {
                 clean = false;
                 break 'sums;

@@ -15,15 +15,12 @@ use field::Gf;
 use polynomial::SYNDROMES;
 use profile::Profile;
 
-// The first k syndromes of a word, then zeros, from its remainder. They are zero if it is, as it is of most words.
+// The first k syndromes of a word, then zeros, from its remainder.
 fn row(r: [u8; SYNDROMES], k: usize) -> [Gf; SYNDROMES]
     requires { ⌜ k ≤ 48 ⌝ }
     ensures { λ s. ⌜ ((n : ℕ) (w : Series) → bytes r ≡ Residue 0 n k w → Row s ≡ cut k (Syndrome n w)) ⌝ }
 {
-    if reed_solomon::is_zero(&r) {
-        return [Gf::ZERO; SYNDROMES];
-    }
-    reed_solomon::values(&r[..k], k)
+    values::at_roots(&r[..k], k)
 }
 
 // The rows of the four subwords from i on go into the table.
@@ -80,7 +77,7 @@ fn one(
     let a = i * n;
     let e = a + n;
     let mut out = rows;
-    out[i] = reed_solomon::syndromes(t, 2 * p.t0 as usize, &block[a..e]);
+    out[i] = values::syndromes(t, 2 * p.t0 as usize, &block[a..e]);
     out
 }
 

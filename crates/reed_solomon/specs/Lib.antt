@@ -1,6 +1,5 @@
 -- Definition is what the promises speak of, with `residue` of Residue.
 pub mod Definition
 pub mod Systematic
-pub mod Lanes
 pub mod Residue
 pub mod Encoder

@@ -3,27 +3,22 @@
 --   residue first n k w   that remainder: the one polynomial of degree below k with the word's values at these roots
 --   Residual first k l r  the array r of 48 symbols holds the remainder of the word l
 --
--- Proved: it has the word's syndromes first to first + k - 1 (residue-syndrome; residue-syndromes from an array), so a word whose remainder is zero
--- has none (residue-none, residue-clean); it is found by the table (residue-table) and depends on the first n symbols (residue-cong). With the first k roots:
--- a word and its remainder make the systematic word (residue-systematic). An array of bytes is zero or not by the bits of its entries, taken
--- together: a loop that gathers them goes on by bits-more.
+-- Proved: it has the word's syndromes first to first + k - 1 (residue-syndrome; residue-array and residue-syndromes from an array); it is found by the table
+-- (residue-table) and depends on the first n symbols (residue-cong). With the first k roots: a word and its remainder make the systematic word
+-- (residue-systematic).
 use Prim.Native.Nat.{ℕ, _+_, _-_, _≤_, _<_}
-use mathlib.Core.Path.{_≡_, refl, sym, ap, ap₂, _∙_, fun-ext}
-use mathlib.Core.Logic.{_≢_, by-cases}
+use mathlib.Core.Path.{_≡_, sym, ap, ap₂, _∙_, fun-ext}
 use mathlib.Core.List.{List}
-use native.Mathlib.Decide.{decLt, ℕ-discrete}
 use native.Mathlib.Omega.{arith}
-use borrow.Author.Count.{below-none, below-more}
-use lib.Bits.{bitAnd, bitOr, or-add-and, and-le-l, and-le-r}
-use lib.ListN.{length, getD, take}
+use lib.ListN.{length, take}
 use lib.Seq.{length-take-le}
-use Rattle.field.specs.Field.{F, 𝟎, _⊕_, _⊙_, of, of-zero, of-nonzero, ⊕-group, pow, power-nonzero}
-use Rattle.series.specs.Series.{Series, O, O-at, _⊞_, ⊞-group}
-use Rattle.series.specs.Shift.{drop, cut, cut-low, cut-unique, cut-drop}
+use Rattle.field.specs.Field.{F, _⊕_, _⊙_, of, ⊕-group, pow, power-nonzero}
+use Rattle.series.specs.Series.{Series, _⊞_, ⊞-group}
+use Rattle.series.specs.Shift.{drop, cut, cut-low, cut-drop}
 use Rattle.series.specs.Degree.{below, below-cut, below-⊞}
-use Rattle.series.specs.Array.{bytes, read-at, below-read}
+use Rattle.series.specs.Array.{bytes}
 use Rattle.series.specs.Part.{read-take}
-use Rattle.series.specs.Value.{value, value-more, value-cong, value-zero, value-split, value-⊞}
+use Rattle.series.specs.Value.{value, value-more, value-cong, value-split, value-⊞}
 use Rattle.series.specs.Interpolation.{interpolate, interpolate-at, interpolate-is, below-interpolate}
 use Rattle.kernel.specs.Store.{cut-cong}
 use Rattle.division.specs.Remainder.{remainder, remainder-top}
@@ -81,9 +76,14 @@ module _ (first n k : ℕ) (w : Series) (small : first + k < 255) where
   unfolding residue
   residue-syndrome = interpolate-at k _ _ (roots-distinct first k small)
 
-  -- of a clean word
-  pub residue-none : residue first n k w ≡ O → (j : ℕ) → j < k → syndrome n w (first + j) ≡ 𝟎
-  residue-none z j h = sym (residue-syndrome j h) ∙ ap (λ (f : Series). value k f (root (first + j))) z ∙ value-zero k O _ (λ i _. O-at i)
+  -- from the first symbols of an array that holds it
+  pub residue-array : (r : List ℕ) → k ≤ length r → bytes r ≡ residue first n k w → (j : ℕ) → j < k
+      → syndrome (length (take k r)) (bytes (take k r)) (first + j) ≡ syndrome n w (first + j)
+  residue-array r long e j h =
+      ap (λ (m : ℕ). syndrome m (bytes (take k r)) (first + j)) (length-take-le k r long)
+      ∙ syndrome-is k _ (first + j)
+      ∙ value-cong k _ _ (root (first + j)) (λ i l. read-take of 0 k r i l ∙ ap (λ (f : Series). f i) e)
+      ∙ residue-syndrome j h
 
 -- ---- by the first k roots
 
@@ -93,21 +93,10 @@ module _ (n k : ℕ) (w : Series) (small : k < 255) where
       let e : 0 + j ≡ j = omega arith in
       ap (λ (i : ℕ). value k (residue 0 n k w) (root i)) (sym e) ∙ residue-syndrome 0 n k w (omega arith) j h ∙ ap (syndrome n w) e
 
-  pub residue-clean : residue 0 n k w ≡ O → O ≡ cut k (syndrome n w)
-  residue-clean z = sym (cut-unique k (syndrome n w) O (λ j h. none j h ∙ sym (O-at j)) (λ j _. O-at j))
-    where
-      none : (j : ℕ) → j < k → syndrome n w j ≡ 𝟎
-      none j h = let e : j ≡ 0 + j = omega arith in ap (syndrome n w) e ∙ residue-none 0 n k w (omega arith) z j h
-
-  -- from the array that holds it
   pub residue-syndromes : (r : List ℕ) → k ≤ length r → bytes r ≡ residue 0 n k w
       → cut k (syndrome (length (take k r)) (bytes (take k r))) ≡ cut k (syndrome n w)
   residue-syndromes r long e =
-      cut-cong k _ _ (λ j h.
-      ap (λ (m : ℕ). syndrome m (bytes (take k r)) j) (length-take-le k r long)
-      ∙ syndrome-is k _ j
-      ∙ value-cong k _ _ (root j) (λ i l. read-take of 0 k r i l ∙ ap (λ (f : Series). f i) e)
-      ∙ residue-first j h)
+      cut-cong k _ _ (λ j h. let z : 0 + j ≡ j = omega arith in rw z at (residue-array 0 n k w (omega arith) r long e j h))
 
   pub residue-systematic : k ≤ n → w ⊞ residue 0 n k w ≡ systematic n k w
   unfolding systematic upper
@@ -127,36 +116,3 @@ module _ (n k : ℕ) (w : Series) (small : k < 255) where
           value-⊞ k _ _ (root j)
           ∙ ap₂ _⊕_ (sym (low j)) (residue-first j h ∙ ap (λ (f : Series). syndrome n f j) (cut-drop k w) ∙ syndrome-⊞ n _ _ j)
           ∙ simp ⊕-group
-
--- ---- zero or not
-
-pub all-zero : (l : List ℕ) → ((j : ℕ) → j < length l → getD l j 0 ≡ 0) → bytes l ≡ O
-all-zero l h = fun-ext (λ j. by-cases (decLt j (length l)) (entry j) (λ k. below-read of 0 of-zero l j (omega arith)) ∙ sym (O-at j))
-  where
-    entry : (j : ℕ) → j < length l → bytes l j ≡ 𝟎
-    entry j k = read-at of 0 l j ∙ ap of (h j k) ∙ of-zero
-
-some-byte : (l : List ℕ) (i : ℕ) → getD l i 0 ≢ 0 → getD l i 0 < 256 → bytes l ≢ O
-some-byte l i h small e = of-nonzero (getD l i 0) small h (sym (read-at of 0 l i) ∙ ap (λ (f : Series). f i) e ∙ O-at i)
-
--- what the bits of the first i entries, taken together, tell
-pub record Bits (l : List ℕ) (i bits : ℕ) : Type 0 where
-  pub none : bits ≡ 0 → (j : ℕ) → j < i → getD l j 0 ≡ 0
-  pub some : bits ≢ 0 → bytes l ≢ O
-
-pub bits-none : (l : List ℕ) → Bits l 0 0
-bits-none l = record { none = λ _. below-none _; some = λ h. absurd (h refl) }
-
-pub bits-more : (l : List ℕ) (i bits : ℕ) → Bits l i bits → getD l i 0 < 256 → Bits l (i + 1) (bitOr bits (getD l i 0))
-bits-more l i bits p small =
-    record {
-      none = λ e. below-more _ i (p .none (both e .0)) (both e .1);
-      some = λ h. by-cases (ℕ-discrete bits 0) (λ z. some-byte l i (λ x. h (ap₂ bitOr z x)) small) (p .some);
-    }
-  where
-    both : bitOr bits (getD l i 0) ≡ 0 → (bits ≡ 0) × (getD l i 0 ≡ 0)
-    both e =
-        let s : bitOr bits (getD l i 0) + bitAnd bits (getD l i 0) ≡ bits + getD l i 0 = or-add-and bits (getD l i 0) in
-        let a : bitAnd bits (getD l i 0) ≤ bits = and-le-l bits (getD l i 0) in
-        let b : bitAnd bits (getD l i 0) ≤ getD l i 0 = and-le-r bits (getD l i 0) in
-        (omega arith, omega arith)

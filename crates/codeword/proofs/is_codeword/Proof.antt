@@ -1,17 +1,16 @@
 -- All nested words before l vanish, and syndromes 2 t0 to j - 1 of nested word l are zero.
 use Prim.Native.Nat.{ℕ, _-_, _≤_, _<_}
 use mathlib.Core.Path.{_≡_, refl, sym, _∙_}
-use mathlib.Core.Logic.{by-cases}
 use mathlib.Core.Bool.{true}
-use native.Mathlib.Decide.{decLt}
 use native.Mathlib.Omega.{arith}
-use lib.ListN.{length}
+use lib.Seq.{length-take-le}
 use borrow.Author.Count.{below-none, below-more}
 use Rattle.field.specs.Field.{𝟎, isZero-true, isZero-false}
 use Rattle.series.specs.Array.{bytes}
+use Rattle.polynomial.specs.Polynomial.{row, row-at}
+use Rattle.profile.specs.Definition.{checks}
 use Rattle.profile.specs.Laws.{unless, meets}
 use Rattle.profile.specs.Valid.{checks-most}
-use Rattle.reed_solomon.specs.Definition.{syndrome}
 use Rattle.codeword.specs.Definition.{Vanish}
 use Rattle.codeword.specs.Laws.{word-syndrome, check-passes, check-fails}
 use borrow.Author.Needs.{needs}
@@ -19,17 +18,16 @@ use Rattle.codeword.proofs.is_codeword.Statement.{statement}
 use Rattle.codeword.proofs.is_codeword.Tie as tie
 
 abbrev Inv-loop : tie.InvT-loop
-Inv-loop p u block v first rows clean₀ l r looked j₀ clean j =
-    (first ≤ j) × (clean ≡ true) × ((i : ℕ) → i < j → first ≤ i → syndrome (length r) (bytes r) i ≡ 𝟎)
+Inv-loop p u block v first k rows clean₀ l checks x j₀ clean j = (first ≤ j) × (clean ≡ true) × ((i : ℕ) → i < j → first ≤ i → row x i ≡ 𝟎)
 
 abbrev μ-loop : tie.MeasureT-loop
-μ-loop p u block v first rows clean₀ l r looked j₀ clean j = looked - j
+μ-loop p u block v first k rows clean₀ l checks x j₀ clean j = checks - j
 
 abbrev Inv-sums : tie.InvT-sums
-Inv-sums p u block v first rows clean₀ l₀ clean l = (l ≤ v) × (clean ≡ true) × ((a : ℕ) → a < l → Vanish p (bytes block) a)
+Inv-sums p u block v first k rows clean₀ l₀ clean l = (l ≤ v) × (clean ≡ true) × ((a : ℕ) → a < l → Vanish p (bytes block) a)
 
 abbrev μ-sums : tie.MeasureT-sums
-μ-sums p u block v first rows clean₀ l₀ clean l = v - l
+μ-sums p u block v first k rows clean₀ l₀ clean l = v - l
 
 cast-v : tie.Need-cast-v Inv-loop μ-loop Inv-sums μ-sums
 cast-v c = search needs
@@ -40,43 +38,54 @@ cast-first c = search needs
 mul-first : tie.Need-mul-first Inv-loop μ-loop Inv-sums μ-sums
 mul-first c = search needs
 
+further-requires : tie.Need-further-requires Inv-loop μ-loop Inv-sums μ-sums
+further-requires c κs = search needs
+
 remainders-requires : tie.Need-remainders-requires Inv-loop μ-loop Inv-sums μ-sums
-remainders-requires c κs = (c .before .before .before .before .pre .0, c .before .before .before .before .pre .2)
+remainders-requires c κs = (c .before .before .before .before .before .pre .0, c .before .before .before .before .before .pre .2)
 
 sums-holds : tie.Need-sums-holds Inv-loop μ-loop Inv-sums μ-sums
 sums-holds c = (omega arith, refl, below-none _)
 
 mul-r : tie.Need-mul-r Inv-loop μ-loop Inv-sums μ-sums
-mul-r c = record { fits = omega (arith, c .before .before .before .before .before .before .before .pre .0 .valid .nested, c .sums-test .taken) }
+mul-r c = record { fits = omega (arith, c .before .before .before .before .before .before .before .before .pre .0 .valid .nested, c .sums-test .taken) }
 
 array-copy-out-r : tie.Need-array-copy-out-r Inv-loop μ-loop Inv-sums μ-sums
-array-copy-out-r c = omega (arith, c .before .before .before .before .before .before .before .pre .0 .valid .nested, c .sums-test .taken)
-
-slice-aggregate-looked-at : tie.Need-slice-aggregate-looked-at Inv-loop μ-loop Inv-sums μ-sums
-slice-aggregate-looked-at c = sym (c .before .before .before .before .remainders .ensures (c .before .before .before .sums .l) (c .before .before .sums-test .taken) .0)
+array-copy-out-r c = omega (arith, c .before .before .before .before .before .before .before .before .pre .0 .valid .nested, c .sums-test .taken)
 
 cast-checks : tie.Need-cast-checks Inv-loop μ-loop Inv-sums μ-sums
-cast-checks c = record { fits = omega (arith, c .before .before .before .before .before .before .before .before .before .pre .0 .valid .nested, c .before .before .sums-test .taken) }
+cast-checks c = record { fits = omega (arith, c .before .before .before .before .before .before .before .before .before .pre .0 .valid .nested, c .before .sums-test .taken) }
 
 checks-requires : tie.Need-checks-requires Inv-loop μ-loop Inv-sums μ-sums
 checks-requires c κs = search needs
 
-cast-looked-at : tie.Need-cast-looked-at Inv-loop μ-loop Inv-sums μ-sums
-cast-looked-at c = search needs
+cast-checks-2 : tie.Need-cast-checks-2 Inv-loop μ-loop Inv-sums μ-sums
+cast-checks-2 c = search needs
 
-looked-at-requires : tie.Need-looked-at-requires Inv-loop μ-loop Inv-sums μ-sums
-looked-at-requires c κs = search needs
+array-share-prefix-r : tie.Need-array-share-prefix-r Inv-loop μ-loop Inv-sums μ-sums
+array-share-prefix-r c =
+    let given = c .before .before .before .before .before .before .before .before .before .before in
+    let left = c .before .before .before .before .remainders .ensures (c .before .before .before .sums .l) (c .before .before .sums-test .taken) in
+    omega (arith, c .before .before .before .before .before .further .ensures, left .0, checks-most (given .args .p) (given .pre .0 .valid) 0)
+
+slice-aggregate-at-roots : tie.Need-slice-aggregate-at-roots Inv-loop μ-loop Inv-sums μ-sums
+slice-aggregate-at-roots c =
+    let given = c .before .before .before .before .before .before .before .before .before .before .before in
+    let left = c .before .before .before .before .before .remainders .ensures (c .before .before .before .before .sums .l) (c .before .before .before .sums-test .taken) in
+    sym (length-take-le (c .before .before .before .before .before .before .further .result) _ (omega (arith, c .before .before .before .before .before .before .further .ensures, left .0, checks-most (given .args .p) (given .pre .0 .valid) 0)))
+
+at-roots-requires : tie.Need-at-roots-requires Inv-loop μ-loop Inv-sums μ-sums
+at-roots-requires c κs =
+    let given = c .before .before .before .before .before .before .before .before .before .before .before in
+    omega (arith, c .before .checks .ensures, checks-most (given .args .p) (given .pre .0 .valid) (c .before .before .before .before .sums .l))
 
 loop-holds : tie.Need-loop-holds Inv-loop μ-loop Inv-sums μ-sums
 loop-holds c = (omega arith, c .before .before .before .before .before .sums .inv .1, λ i h l. absurd (omega arith))
 
-slice-aggregate-syndrome : tie.Need-slice-aggregate-syndrome Inv-loop μ-loop Inv-sums μ-sums
-slice-aggregate-syndrome c = sym (c .before .before .before .before .before .before .before .before .before .remainders .ensures (c .before .before .before .before .before .before .before .before .sums .l) (c .before .before .before .before .before .before .before .sums-test .taken) .0)
-
-syndrome-requires : tie.Need-syndrome-requires Inv-loop μ-loop Inv-sums μ-sums
-syndrome-requires c κs =
+array-copy-out-s : tie.Need-array-copy-out-s Inv-loop μ-loop Inv-sums μ-sums
+array-copy-out-s c =
     let given = c .before .before .before .before .before .before .before .before .before .before .before .before .before .before in
-    omega (arith, c .before .loop-test .taken, c .before .before .before .looked-at .ensures .0, c .before .before .before .before .checks .ensures, checks-most (given .args .p) (given .pre .0 .valid) (c .before .before .before .before .before .before .before .before .sums .l))
+    omega (arith, c .loop-test .taken, c .before .before .before .before .checks .ensures, checks-most (given .args .p) (given .pre .0 .valid) (c .before .before .before .before .before .before .before .sums .l))
 
 is-zero-requires : tie.Need-is-zero-requires Inv-loop μ-loop Inv-sums μ-sums
 is-zero-requires c κs = search needs
@@ -89,9 +98,11 @@ loop-less c = search needs
 
 loop-again : tie.Need-loop-again Inv-loop μ-loop Inv-sums μ-sums
 loop-again c =
-    let now = c .before .before .before .before .before .loop in
+    let now = c .before .before .before .before .loop in
+    let given = c .before .before .before .before .before .before .before .before .before .before .before .before .before .before .before .before .before in
     let zero = isZero-true _ (sym (c .before .is-zero .ensures) ∙ meets _ (c .if1 .left)) in
-    (omega arith, now .inv .1, below-more _ (now .j) (now .inv .2) (λ _. sym (c .before .before .syndrome .ensures) ∙ zero))
+    let small : now .j < 48 = omega (arith, c .before .before .before .loop-test .taken, c .before .before .before .before .before .before .before .checks .ensures, checks-most (given .args .p) (given .pre .0 .valid) (c .before .before .before .before .before .before .before .before .before .before .sums .l)) in
+    (omega arith, now .inv .1, below-more _ (now .j) (now .inv .2) (λ _. row-at _ (now .j) small ∙ zero))
 
 add-l : tie.Need-add-l Inv-loop μ-loop Inv-sums μ-sums
 add-l c = search needs
@@ -102,37 +113,35 @@ sums-less c = search needs
 sums-again : tie.Need-sums-again Inv-loop μ-loop Inv-sums μ-sums
 sums-again c =
     let end = c .before .loop in
-    let looked = c .before .before .looked-at in
-    let checks = c .before .before .before .checks .ensures in
     let now = c .before .before .before .before .before .before .before .sums in
-    let given = c .before .before .before .before .before .before .before .before .before .before .before .before .before in
+    let given = c .before .before .before .before .before .before .before .before .before .before .before .before .before .before in
     let p = given .args .p in
     let s = bytes (given .args .block .now) in
-    let is = c .before .before .before .before .before .before .before .before .remainders .ensures (now .l) (c .before .before .before .before .before .before .sums-test .taken) in
-    let here : Vanish p s (now .l) = λ j low h.
-    sym (word-syndrome p s (given .pre .0 .valid) (now .l) _ (is .0) (is .1) j low h)
-    ∙ by-cases (decLt j (looked .result)) (λ q. end .inv .2 j (omega (arith, q, c .loop-test .left)) low) (λ q. looked .ensures .1 j (omega arith) (omega (arith, checks))) in (
-      omega (arith, c .before .before .before .before .before .before .sums-test .taken),
-      end .inv .1,
-      below-more (Vanish p s) (now .l) (now .inv .2) here,
-    )
+    let h = c .before .before .before .before .before .before .sums-test .taken in
+    let here : Vanish p s (now .l) = λ j low q.
+    sym (word-syndrome p s (given .pre .0 .valid) (now .l) _ _ _ _ (c .before .before .before .before .before .before .before .before .before .further .ensures) (c .before .before .before .before .checks .ensures) (c .before .before .before .before .before .before .before .before .remainders .ensures (now .l) h)
+    (c .before .before .at-roots .ensures) j low q)
+    ∙ end .inv .2 j (omega (arith, q, c .before .before .before .before .checks .ensures, c .loop-test .left)) low in
+    (omega (arith, h), end .inv .1, below-more (Vanish p s) (now .l) (now .inv .2) here)
 
 returns : tie.Need-returns Inv-loop μ-loop Inv-sums μ-sums
 returns c =
     let end = c .before .sums in
-    let given = c .before .before .before .before .before .before .before in
+    let given = c .before .before .before .before .before .before .before .before in
     end .inv .1 ∙ check-passes (given .args .p) _ (given .pre .1) (λ l h. end .inv .2 l (omega (arith, c .sums-test .left)))
 
 returns-2 : tie.Need-returns-2 Inv-loop μ-loop Inv-sums μ-sums
 returns-2 c =
-    let now = c .before .before .before .before .before .loop in
-    let l = c .before .before .before .before .before .before .before .before .before .before .before .sums .l in
+    let now = c .before .before .before .before .loop in
+    let l = c .before .before .before .before .before .before .before .before .before .before .sums .l in
     let given = c .before .before .before .before .before .before .before .before .before .before .before .before .before .before .before .before .before in
-    let is = c .before .before .before .before .before .before .before .before .before .before .before .before .remainders .ensures l (c .before .before .before .before .before .before .before .before .before .before .sums-test .taken) in
+    let p = given .args .p in
+    let h = c .before .before .before .before .before .before .before .before .before .sums-test .taken in
+    let q : now .j < checks p l = omega (arith, c .before .before .before .loop-test .taken, c .before .before .before .before .before .before .before .checks .ensures) in
+    let small : now .j < 48 = omega (arith, q, checks-most p (given .pre .0 .valid) l) in
     let nonzero = isZero-false _ (sym (c .before .is-zero .ensures) ∙ unless _ (c .if1 .taken)) in
-    check-fails (given .args .p) _ (given .pre .0 .valid) l _ (is .0) (is .1) (now .j) (c .before .before .before .before .before .before .before .before .before .before .sums-test .taken) (now .inv .0)
-    (omega (arith, c .before .before .before .before .loop-test .taken, c .before .before .before .before .before .before .looked-at .ensures .0, c .before .before .before .before .before .before .before .checks .ensures))
-    (λ e. nonzero (c .before .before .syndrome .ensures ∙ e))
+    check-fails p _ (given .pre .0 .valid) l _ _ _ _ (c .before .before .before .before .before .before .before .before .before .before .before .before .further .ensures) (c .before .before .before .before .before .before .before .checks .ensures) (c .before .before .before .before .before .before .before .before .before .before .before .remainders .ensures l h) (c .before .before .before .before .before .at-roots .ensures)
+    (now .j) h (now .inv .0) q (λ e. nonzero (sym (row-at _ (now .j) small) ∙ e))
 
 pub is-codeword-spec : {M : Type 1} → statement M
 is-codeword-spec =
@@ -145,18 +154,19 @@ is-codeword-spec =
     cast-v
     cast-first
     mul-first
+    further-requires
     remainders-requires
     sums-holds
     mul-r
     array-copy-out-r
-    slice-aggregate-looked-at
     cast-checks
     checks-requires
-    cast-looked-at
-    looked-at-requires
+    cast-checks-2
+    array-share-prefix-r
+    slice-aggregate-at-roots
+    at-roots-requires
     loop-holds
-    slice-aggregate-syndrome
-    syndrome-requires
+    array-copy-out-s
     is-zero-requires
     add-j
     loop-less

@@ -3,10 +3,10 @@ use mathlib.Core.Bool.{xor}
 use Rattle.field.specs.Definition.{𝟎, 𝟏, α, _⊕_, _⊙_, times, plus, scale, z⁸, horner, modulo, coefficients, bit, byte, powers}
 use Rattle.field.specs.Log.{powerTable}
 use Rattle.field.specs.Test.{all}
-use Rattle.reed_solomon.specs.Lanes.{roots?, roots}
+use Rattle.values.specs.Lanes.{roots?, roots}
 use borrow.Author.Needs.{needs}
-use Rattle.reed_solomon.proofs.roots.Statement.{statement}
-use Rattle.reed_solomon.proofs.roots.Tie as tie
+use Rattle.values.proofs.roots.Statement.{statement}
+use Rattle.values.proofs.roots.Tie as tie
 
 returns : tie.Need-returns
 unfolding roots? all powerTable powers byte bit 𝟎 𝟏 α _⊙_ times plus modulo horner scale z⁸ _⊕_ coefficients xor

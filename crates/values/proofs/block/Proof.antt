@@ -5,10 +5,10 @@ use native.Mathlib.Omega.{arith}
 use lib.ListN.{length}
 use Rattle.field.specs.Field.{of, of-zero}
 use Rattle.series.specs.Array.{bytes, read-at, read-zeros}
-use Rattle.reed_solomon.specs.Lanes.{Horner, lanes-none, lanes-more, lanes-all}
+use Rattle.values.specs.Lanes.{Horner, lanes-none, lanes-more, lanes-all}
 use borrow.Author.Needs.{needs}
-use Rattle.reed_solomon.proofs.block.Statement.{statement}
-use Rattle.reed_solomon.proofs.block.Tie as tie
+use Rattle.values.proofs.block.Statement.{statement}
+use Rattle.values.proofs.block.Tie as tie
 
 abbrev Inv-loop : tie.InvT-loop
 Inv-loop r i x v₀ p₀ v p = (p ≤ length r) × Horner (length r) (bytes r) x i p v

@@ -3,8 +3,8 @@ use Prim.Native.Nat.{_-_, _%_}
 use mathlib.Core.Path.{_≡_}
 use native.Mathlib.Omega.{arith}
 use borrow.Author.Needs.{needs}
-use Rattle.reed_solomon.proofs.lanes.Statement.{statement}
-use Rattle.reed_solomon.proofs.lanes.Tie as tie
+use Rattle.values.proofs.lanes.Statement.{statement}
+use Rattle.values.proofs.lanes.Tie as tie
 
 block-requires : tie.Need-block-requires
 block-requires c κs = search needs

@@ -7,8 +7,8 @@ use Rattle.field.specs.Field.{F, _⊕_, _⊙_, of, of-zero, of-xor}
 use Rattle.series.specs.Shift.{cut}
 use Rattle.series.specs.Array.{bytes, read-at, read-zeros, read-store}
 use borrow.Author.Needs.{needs}
-use Rattle.reed_solomon.proofs.horner.Statement.{statement}
-use Rattle.reed_solomon.proofs.horner.Tie as tie
+use Rattle.values.proofs.horner.Statement.{statement}
+use Rattle.values.proofs.horner.Tie as tie
 
 abbrev Inv-loop : tie.InvT-loop
 Inv-loop x i s v out₀ j₀ out j = (j ≤ 32) × (length out ≡ 32) × (bytes out ≡ cut j (λ j. bytes v j ⊙ bytes x (i + j) ⊕ of s))

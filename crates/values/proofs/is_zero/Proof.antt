@@ -3,10 +3,10 @@ use Prim.Native.Nat.{_-_, _≤_}
 use native.Mathlib.Omega.{arith}
 use borrow.Author.Tests.{eqb-true, eqb-false}
 use lib.ListN.{length}
-use Rattle.reed_solomon.specs.Residue.{Bits, bits-none, bits-more, all-zero}
+use Rattle.values.specs.Zero.{Bits, bits-none, bits-more, all-zero}
 use borrow.Author.Needs.{needs}
-use Rattle.reed_solomon.proofs.is_zero.Statement.{statement}
-use Rattle.reed_solomon.proofs.is_zero.Tie as tie
+use Rattle.values.proofs.is_zero.Statement.{statement}
+use Rattle.values.proofs.is_zero.Tie as tie
 
 abbrev Inv-loop : tie.InvT-loop
 Inv-loop word bits₀ i₀ bits i = (i ≤ length word) × Bits word i bits
