@@ -76,7 +76,7 @@ fn difference(word: &[u8], k: usize, r: Packed) -> [u8; SYNDROMES]
 }
 
 // The remainder of a word by the generator of the k roots from `first` on, zeros from k on. It is zero exactly if these syndromes are.
-fn residue(t: &[u64], first: usize, k: usize, word: &[u8]) -> [u8; SYNDROMES]
+pub fn residue(t: &[u64], first: usize, k: usize, word: &[u8]) -> [u8; SYNDROMES]
     requires { ⌜ Table first k (now t) × (first + k ≤ 48) × (k ≤ length (now word)) ⌝ }
     ensures { λ r. ⌜ bytes r ≡ Residue first (length (now (word .entry))) k (bytes (now (word .entry))) ⌝ }
 {
