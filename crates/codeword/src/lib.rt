@@ -18,7 +18,7 @@ use polynomial::SYNDROMES;
 use profile::Profile;
 
 // How many roots nested word 0 has past the 2 t0 of the subwords.
-fn further(p: Profile) -> usize
+pub fn further(p: Profile) -> usize
     requires { ⌜ Valid p ⌝ }
     ensures { λ k. ⌜ k ≡ Count p ⌝ }
 {

@@ -1,3 +1,4 @@
--- Definition is what the promises speak of; Rows proves them.
+-- Definition is what the promises speak of; Splice and Rows prove them.
 pub mod Definition
+pub mod Splice
 pub mod Rows

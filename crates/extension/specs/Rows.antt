@@ -4,7 +4,7 @@
 --
 -- Proved: for a valid profile the new syndromes of an unsettled subword are those of its merged word (fresh-merged), so the extended rows are the
 -- round's (extend-is). A loop over subwords makes `partly` (partly-none, partly-more); what is done for one subword makes
--- `extended` (extended-no, extended-word).
+-- `extended` (extended-no, extended-word). A word's syndromes are those of its remainder, in arrays (left-syndrome).
 use Prim.Native.Nat.{ℕ, _+_, _-_, _≤_, _<_}
 use mathlib.Core.Path.{_≡_, refl, sym, ap, ap₂, _∙_, fun-ext}
 use mathlib.Core.Bool.{Bool, true, false, cond}
@@ -14,28 +14,32 @@ use native.Mathlib.Nat.{zero-add}
 use native.Mathlib.Omega.{arith}
 use lib.Dec.{ltb}
 use lib.ListN.{length, set, take}
-use lib.Seq.{getD-set-same, getD-set-other}
+use lib.Seq.{getD-set-same, getD-set-other, length-take-le}
 use borrow.Author.Tests.{lt-ltb, le-ltb}
 use Rattle.field.specs.declared.Gf.{Gf}
-use Rattle.field.specs.Field.{_⊙_}
+use Rattle.field.specs.Field.{_⊙_, of}
 use Rattle.series.specs.Sum.{sum, sum-cong}
 use Rattle.series.specs.Series.{Series}
-use Rattle.series.specs.Shift.{cut}
+use Rattle.series.specs.Shift.{cut, cut-low}
 use Rattle.series.specs.Array.{bytes}
+use Rattle.series.specs.Part.{read-take}
+use Rattle.series.specs.Value.{value-cong}
 use Rattle.polynomial.specs.Polynomial.{row}
 use Rattle.profile.specs.declared.Profile.{Profile}
 use Rattle.profile.specs.Valid.{Valid}
-use Rattle.reed_solomon.specs.Definition.{syndrome}
-use Rattle.reed_solomon.specs.Systematic.{syndrome-sum}
+use Rattle.reed_solomon.specs.Definition.{root, syndrome}
+use Rattle.reed_solomon.specs.Systematic.{syndrome-is, syndrome-sum}
+use Rattle.reed_solomon.specs.Residue.{residue, residue-syndrome}
 use Rattle.code.specs.Definition.{subword}
 use Rattle.code.specs.Block.{syndrome-nested}
 use Rattle.code.specs.Combined.{combined}
-use Rattle.code.specs.Check.{table, prefix-syndrome}
+use Rattle.code.specs.Check.{table, prefix-residue}
 use Rattle.staged.specs.Definition.{Progress, open?, unsettled, fresh, window, extend}
 use Rattle.staged.specs.Round.{extend-past, system-solves}
 use Rattle.lagrange.specs.Definition.{flag, lagrange}
 use Rattle.lagrange.specs.Lagrange.{lagrange-solves, lagrange-cong}
 use Rattle.extension.specs.Definition.{merged, extended, Seen}
+use Rattle.extension.specs.Splice.{window-cong}
 
 -- ---- the merged words
 
@@ -63,6 +67,21 @@ merged-cong p b c s i j h =
     merged-syndrome p b s i j
     ∙ sum-cong (p .subwords) _ _ (λ k l. ap (λ x. x ⊙ syndrome (p .length) (subword (p .length) s k) j) (lagrange-cong (p .subwords) b c i k h))
     ∙ sym (merged-syndrome p c s i j)
+
+-- ---- from the remainder
+
+-- a word g stands in the first n entries of the array w, its remainder in the first k of r, and syndromes of the remainder in s
+pub left-syndrome : (first n k b : ℕ) (g : Series) (w r : List ℕ) (s : List Gf) → first + k ≤ 48 → b ≤ first + k → n ≤ length w → length r ≡ 48
+    → bytes w ≡ cut n g → bytes r ≡ residue first (length (take n w)) k (bytes (take n w))
+    → row s ≡ cut b (syndrome (length (take k r)) (bytes (take k r))) → (j : ℕ) → first ≤ j → j < b → row s j ≡ syndrome n g j
+left-syndrome first n k b g w r s small most room long word left is j low h =
+    let e : first + (j - first) ≡ j = omega arith in
+    ap (λ (f : Series). f j) is
+    ∙ cut-low b _ j h
+    ∙ ap (λ (m : ℕ). syndrome m (bytes (take k r)) j) (length-take-le k r (omega arith))
+    ∙ syndrome-is k _ j
+    ∙ value-cong k _ _ (root j) (λ i l. read-take of 0 k r i l ∙ ap (λ (f : Series). f i) (left ∙ prefix-residue first n k w g room word))
+    ∙ (rw e at (residue-syndrome first n k g (omega arith) (j - first) (omega arith)))
 
 -- ---- rows, one after the other
 
@@ -99,11 +118,10 @@ module _ (p : Profile) (a b : ℕ) (o : List Bool) (s : Series) (i : ℕ) (r : S
   pub extended-no : flag o i ≡ false → r ≡ extended p a b o s i r
   extended-no e = rw e
 
-  -- the merged word stands in the first n entries of an array
-  pub extended-word : (w : List ℕ) (out : Series) → flag o i ≡ true → p .length ≤ length w → bytes w ≡ cut (p .length) (merged p (flag o) s i)
-      → out ≡ window a b (syndrome (length (take (p .length) w)) (bytes (take (p .length) w))) r → out ≡ extended p a b o s i r
-  extended-word w out e h is q =
-      q ∙ ap (λ (g : Series). window a b g r) (fun-ext (λ j. prefix-syndrome (p .length) w _ j h is)) ∙ sym (extended-yes e)
+  -- the new entries are syndromes of the merged word
+  pub extended-word : (g out : Series) → flag o i ≡ true → ((j : ℕ) → a ≤ j → j < b → g j ≡ syndrome (p .length) (merged p (flag o) s i) j)
+      → out ≡ window a b g r → out ≡ extended p a b o s i r
+  extended-word g out e same q = q ∙ window-cong a b g _ r same ∙ sym (extended-yes e)
 
 module _ (p : Profile) (ok : Valid p) (a b : ℕ) (o : List Bool) (s : List ℕ) (t : List (List Gf)) (g : Progress) (seen : Seen p o s t g) where
   abbrev rows : ℕ → Series

@@ -146,7 +146,7 @@ fn decode_copy(
     ensures { λ r. ⌜ Gives form (concluded p (Decode p (bytes (now (input .entry))))) (now (out .entry)) (now (out .exit)) r ⌝ }
 {
     copy(input, block);
-    let e = stages::run(p, form, syndromes, block);
+    let e = stages::run(p, form, u, syndromes, block);
     conclude(p, form, u, e, block, out)
 }
 

@@ -1,38 +1,17 @@
 // One Reed-Solomon word: syndromes, check symbols, the remainder by the generator.
 // What the promises speak of stands in specs/Definition.antt: `systematic n k w` is the word w with its k check symbols in place.
-ghost use Prim.Native.Nat.{_+_, _-_, _≤_, _<_};
+ghost use Prim.Native.Nat.{_+_, _-_, _≤_};
 ghost use mathlib.Core.Path.{_≡_};
 ghost use lib.ListN.{length};
-ghost use Rattle.field.specs.Field.{val};
 ghost use Rattle.series.specs.Series.{_⊞_};
 ghost use Rattle.series.specs.Shift.{drop, cut};
 ghost use Rattle.series.specs.Array.{bytes};
 ghost use Rattle.packed.specs.Packed.{packed};
 ghost use Rattle.generator.specs.Table.{Table};
-ghost use Rattle.reed_solomon.specs.Definition.{root as Root, syndrome as Syndrome, systematic};
+ghost use Rattle.reed_solomon.specs.Definition.{systematic};
 ghost use Rattle.reed_solomon.specs.Residue.{residue as Residue, Residual};
-use field::Exponent;
-use field::Gf;
 use packed::Packed;
 use polynomial::SYNDROMES;
-
-// α^(j+1), the point of syndrome j.
-pub fn root(j: usize) -> Gf
-    requires { ⌜ j < 48 ⌝ }
-    ensures { λ r. ⌜ val r ≡ Root j ⌝ }
-{
-    Exponent(j + 1).power()
-}
-
-// The value of a word at root j: S_j.
-pub fn syndrome(word: &[u8], j: usize) -> Gf
-    requires { ⌜ j < 48 ⌝ }
-    ensures { λ r. ⌜ val r ≡ Syndrome (length (now (word .entry))) (bytes (now (word .entry))) j ⌝ }
-{
-    let x = root(j);
-    let row = kernel::product_row(x);
-    kernel::value(&row, word)
-}
 
 // The first k symbols become the check symbols of the others.
 pub fn encode(t: &[u64], k: usize, word: &mut [u8])

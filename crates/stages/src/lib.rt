@@ -8,6 +8,7 @@ ghost use lib.ListN.{length};
 ghost use Rattle.series.specs.Array.{bytes};
 ghost use Rattle.profile.specs.Valid.{Valid};
 ghost use Rattle.code.specs.Check.{Fits, table, received};
+ghost use Rattle.codeword.specs.Definition.{Further};
 ghost use Rattle.stages.specs.View.{view, waiting, Before, Came, Started, Extended, Reached};
 use code::SUBWORDS;
 use field::Gf;
@@ -65,17 +66,18 @@ fn stage(
 // Round r + 1: the rows of the pending subwords go on to the next stage's syndromes.
 fn round(
     p: Profile,
+    u: &[u64],
     r: u8,
     pending: [bool; SUBWORDS],
     table: [[Gf; SYNDROMES]; SUBWORDS],
     block: &[u8],
 ) -> [[Gf; SYNDROMES]; SUBWORDS]
-    requires { ⌜ Fits p (now block) × (r < p .nested) ⌝ }
+    requires { ⌜ Fits p (now block) × Further p (now u) × (r < p .nested) ⌝ }
     ensures { λ t. ⌜ Extended p r (now (block .entry)) pending table t ⌝ }
 {
     let from = 2 * p.capability(r) as usize;
     let to = 2 * p.capability(r + 1) as usize;
-    extension::extend(p, pending, block, from, to, table)
+    extension::extend(p, u, pending, block, from, to, table)
 }
 
 // Whether a round follows stage r: some subwords are pending, and not too many.
@@ -102,14 +104,16 @@ pub fn start(form: Form) -> [Line; SUBWORDS]
     [l; SUBWORDS]
 }
 
-// The stages, up to the one after which every subword is settled or too many are not, from the received subwords' syndromes.
+// The stages, up to the one after which every subword is settled or too many are not, from the received subwords' syndromes. A round goes by the table for the
+// further roots of nested words.
 pub fn run(
     p: Profile,
     form: Form,
+    u: &[u64],
     syndromes: [[Gf; SYNDROMES]; SUBWORDS],
     block: &mut [u8],
 ) -> Ending
-    requires { ⌜ Fits p (now block) × (table syndromes ≡ received p (bytes (now block)) (2 * p .t0)) ⌝ }
+    requires { ⌜ Fits p (now block) × Further p (now u) × (table syndromes ≡ received p (bytes (now block)) (2 * p .t0)) ⌝ }
     ensures { λ e. ⌜ Reached p form (bytes (now (block .entry))) (bytes (now (block .exit))) e ⌝ }
 {
     let mut table = syndromes;
@@ -118,7 +122,7 @@ pub fn run(
     let mut lines = first.lines;
     let mut r: u8 = 0;
     while follows(p, r, pending) {
-        let further = round(p, r, pending, table, block);
+        let further = round(p, u, r, pending, table, block);
         table = further;
         r = r + 1;
         let s = stage(p, r, pending, lines, table, block);

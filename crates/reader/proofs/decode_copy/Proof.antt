@@ -16,7 +16,7 @@ run-requires : tie.Need-run-requires
 run-requires c κs =
     let given = c .before .before .before .before .before .before .before .before .before in
     let copied = c .before .before .before .copy .ensures in
-    (fits-same copied (given .pre .0), given .pre .4 ∙ ap (λ b. received (given .args .p) (bytes b) (2 * given .args .p .t0)) (sym copied))
+    (fits-same copied (given .pre .0), given .pre .3, given .pre .4 ∙ ap (λ b. received (given .args .p) (bytes b) (2 * given .args .p .t0)) (sym copied))
 
 conclude-requires : tie.Need-conclude-requires
 conclude-requires c κs =

@@ -1,10 +1,10 @@
 -- From the capability of the stage to that of the next.
-use Prim.Native.Nat.{suc, _*_}
+use Prim.Native.Nat.{suc, _-_, _*_}
 use mathlib.Core.Path.{ap, ap₂, _∙_}
 use native.Mathlib.Numerals.{add-one}
 use native.Mathlib.Omega.{arith}
 use Rattle.profile.specs.Definition.{capability}
-use Rattle.profile.specs.Valid.{capability-most}
+use Rattle.profile.specs.Valid.{capability-mono, checks-is}
 use Rattle.staged.specs.Definition.{extend}
 use Rattle.stages.specs.Walk.{extended}
 use borrow.Author.Needs.{needs}
@@ -34,13 +34,21 @@ mul-to c = search needs
 
 extend-requires : tie.Need-extend-requires
 extend-requires c κs =
-    let given = c .before .before .before in
-    let to = c .capability2 .ensures ∙ ap (capability (given .args .p)) (add-one (given .args .r)) in
-    (given .pre .0, omega (arith, to, capability-most (given .args .p) (given .pre .0 .valid) (suc (given .args .r)) (given .pre .1)))
+    let given = c .before .before .before .before in
+    let p = given .args .p in
+    let ok = given .pre .0 .valid in
+    let from = c .before .capability .ensures in
+    let to = c .capability2 .ensures ∙ ap (capability p) (add-one (given .args .r)) in (
+      given .pre .0,
+      given .pre .1,
+      omega (arith, given .pre .2),
+      omega (arith, from, capability-mono p ok 0 (given .args .r) (omega arith) (omega (arith, given .pre .2))),
+      omega (arith, to, checks-is p 0, capability-mono p ok (suc (given .args .r)) (p .nested - 0) (omega (arith, given .pre .2)) (omega arith)),
+    )
 
 returns : tie.Need-returns
 returns c =
-    let given = c .before .before .before .before in
+    let given = c .before .before .before .before .before in
     let from = ap (λ t. 2 * t) (c .before .before .capability .ensures) in
     let to = ap (λ t. 2 * t) (c .before .capability2 .ensures ∙ ap (capability (given .args .p)) (add-one (given .args .r))) in
     λ lines. extended (given .args .p) (given .args .pending) (omega (arith, given .pre .0 .valid .subwords)) _ lines (given .args .r) _ _

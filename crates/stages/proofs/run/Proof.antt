@@ -15,34 +15,34 @@ use Rattle.stages.proofs.run.Statement.{statement}
 use Rattle.stages.proofs.run.Tie as tie
 
 abbrev Inv-loop : tie.InvT-loop
-Inv-loop p block₀ table₀ pending₀ lines₀ r₀ block table pending lines r =
+Inv-loop p u block₀ table₀ pending₀ lines₀ r₀ block table pending lines r =
     (r ≤ p .nested) × Fits p block × (length pending ≡ 8) × (length lines ≡ 8)
     × ((f : Form) (y : Series) → At p f y 0 block₀ pending₀ lines₀ table₀ → At p f y r block pending lines table)
 
 abbrev μ-loop : tie.MeasureT-loop
-μ-loop p block₀ table₀ pending₀ lines₀ r₀ block table pending lines r = p .nested - r
+μ-loop p u block₀ table₀ pending₀ lines₀ r₀ block table pending lines r = p .nested - r
 
 start-requires : tie.Need-start-requires Inv-loop μ-loop
 start-requires c κs = search needs
 
 stage-requires : tie.Need-stage-requires Inv-loop μ-loop
-stage-requires c κs = let given = c .before .before .before in (given .pre .0, omega arith)
+stage-requires c κs = let given = c .before .before .before .before in (given .pre .0, omega arith)
 
 loop-holds : tie.Need-loop-holds Inv-loop μ-loop
 loop-holds c =
-    let given = c .before .before .before .before .before .before .before .before in
+    let given = c .before .before .before .before .before .before .before .before .before in
     let stage = c .before .before .before .before .stage in
     (omega arith, record { valid = given .pre .0 .valid; size = omega (arith, c .before .before .before .block .given, given .pre .0 .size) }, stage .ensures .0 .0, stage .ensures .0 .1, λ f y h. h)
 
 follows-requires : tie.Need-follows-requires Inv-loop μ-loop
-follows-requires c κs = let given = c .before .before .before .before .before .before .before .before .before in (given .pre .0 .valid, c .loop .inv .0)
+follows-requires c κs = let given = c .before .before .before .before .before .before .before .before .before .before in (given .pre .0 .valid, c .loop .inv .0)
 
 round-requires : tie.Need-round-requires Inv-loop μ-loop
 round-requires c κs =
     let now = c .before .before .before .loop in
-    let given = c .before .before .before .before .before .before .before .before .before .before .before .before in
+    let given = c .before .before .before .before .before .before .before .before .before .before .before .before .before in
     let (some-left, few-left) = follows-yes (given .args .p) (now .pending) (now .r) _ (c .before .before .follows .ensures) (c .before .if1 .taken) in
-    (now .inv .1, omega (arith, some-left, few-left))
+    (now .inv .1, given .pre .1, omega (arith, some-left, few-left))
 
 add-r : tie.Need-add-r Inv-loop μ-loop
 add-r c = search needs
@@ -50,14 +50,14 @@ add-r c = search needs
 stage-requires-2 : tie.Need-stage-requires-2 Inv-loop μ-loop
 stage-requires-2 c κs =
     let now = c .before .before .before .before .before .loop in
-    let given = c .before .before .before .before .before .before .before .before .before .before .before .before .before .before in
+    let given = c .before .before .before .before .before .before .before .before .before .before .before .before .before .before .before in
     let (some-left, few-left) =
     follows-yes (given .args .p) (now .pending) (now .r) _ (c .before .before .before .before .follows .ensures) (c .before .before .before .if1 .taken) in
     (now .inv .1, omega (arith, some-left, few-left))
 
 loop-less : tie.Need-loop-less Inv-loop μ-loop
 loop-less c =
-    let given = c .before .before .before .before .before .before .before .before .before .before .before .before .before .before .before .before .before .before .before in
+    let given = c .before .before .before .before .before .before .before .before .before .before .before .before .before .before .before .before .before .before .before .before in
     let now = c .before .before .before .before .before .before .before .before .before .before .loop in
     let (some-left, few-left) =
     follows-yes (given .args .p) (now .pending) (now .r) _ (c .before .before .before .before .before .before .before .before .before .follows .ensures) (c .before .before .before .before .before .before .before .before .if1 .taken) in
@@ -65,7 +65,7 @@ loop-less c =
 
 loop-again : tie.Need-loop-again Inv-loop μ-loop
 loop-again c =
-    let given = c .before .before .before .before .before .before .before .before .before .before .before .before .before .before .before .before .before .before .before in
+    let given = c .before .before .before .before .before .before .before .before .before .before .before .before .before .before .before .before .before .before .before .before in
     let now = c .before .before .before .before .before .before .before .before .before .before .loop in
     let (some-left, few-left) =
     follows-yes (given .args .p) (now .pending) (now .r) _ (c .before .before .before .before .before .before .before .before .before .follows .ensures) (c .before .before .before .before .before .before .before .before .if1 .taken) in
@@ -86,14 +86,14 @@ loop-again c =
     )
 
 unsettled-requires : tie.Need-unsettled-requires Inv-loop μ-loop
-unsettled-requires c κs = c .before .before .before .before .before .before .before .before .before .before .before .pre .0 .valid .subwords .1
+unsettled-requires c κs = c .before .before .before .before .before .before .before .before .before .before .before .before .pre .0 .valid .subwords .1
 
 same-length : tie.Need-same-length Inv-loop μ-loop
 same-length c = search needs
 
 returns : tie.Need-returns Inv-loop μ-loop
 returns c =
-    let given = c .before .before .before .before .before .before .before .before .before .before .before .before in
+    let given = c .before .before .before .before .before .before .before .before .before .before .before .before .before in
     let now = c .before .before .before .loop in
     let ok = given .pre .0 .valid in
     let p = given .args .p in
@@ -101,8 +101,8 @@ returns c =
     let y = given .args .block .now in
     let stage = c .before .before .before .before .before .before .before .before .stage in
     let start = c .before .before .before .before .before .before .before .before .before .before .start in
-    let first = at-first p f y (start .result) (given .args .syndromes) (start .ensures) (given .pre .1) _ (stage .result)
-    (stage .ensures .1 f (before-first p f y (start .result) (given .args .syndromes) (start .ensures) (given .pre .1))) in
+    let first = at-first p f y (start .result) (given .args .syndromes) (start .ensures) (given .pre .2) _ (stage .result)
+    (stage .ensures .1 f (before-first p f y (start .result) (given .args .syndromes) (start .ensures) (given .pre .2))) in
     subst (λ (w : ℕ). Reached p f (bytes y) (bytes (now .block)) (record { settled = eqb w 0; stage = now .r; lines = now .lines })) (sym (c .unsettled .ensures))
     (reached p ok f (bytes y) (now .r) (now .block) (now .pending) (now .lines) (now .table) (omega (arith, ok .subwords .1, now .inv .2))
     (now .inv .4 f (bytes y) first) (now .inv .3) (sym (c .before .before .follows .ensures) ∙ c .before .if1 .left))
