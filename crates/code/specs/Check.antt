@@ -111,11 +111,6 @@ module _ (p : Profile) (s : Series) where
 prefix-at : (n : ℕ) (l : List ℕ) (g : Series) → bytes l ≡ cut n g → (q : ℕ) → q < n → bytes (take n l) q ≡ g q
 prefix-at n l g e q b = read-take of 0 n l q b ∙ ap (λ (f : Series). f q) e ∙ cut-low n g q b
 
-pub prefix-syndrome : (n : ℕ) (l : List ℕ) (g : Series) (j : ℕ) → n ≤ length l → bytes l ≡ cut n g
-    → syndrome (length (take n l)) (bytes (take n l)) j ≡ syndrome n g j
-prefix-syndrome n l g j h e =
-    ap (λ k. syndrome k (bytes (take n l)) j) (length-take-le n l h) ∙ syndrome-cong n _ g (prefix-at n l g e) j
-
 pub prefix-residue : (first n k : ℕ) (l : List ℕ) (g : Series) → n ≤ length l → bytes l ≡ cut n g
     → residue first (length (take n l)) k (bytes (take n l)) ≡ residue first n k g
 prefix-residue first n k l g h e =

@@ -10,10 +10,10 @@ use native.Mathlib.Omega.{arith}
 use native.Mathlib.Decide.{decLe}
 use Rattle.field.specs.Field.{F, 𝟎, _⊕_, _⊙_, zero-⊕, ⊕-self, ⊕-cancel, pow, power-inj}
 use Rattle.series.specs.Sum.{sum}
-use Rattle.series.specs.Series.{Series, K, _⊞_, _⊠_, ⊞-at}
+use Rattle.series.specs.Series.{Series, _⊞_, ⊞-at}
 use Rattle.series.specs.Shift.{drop, zpow-at, drop-at}
 use Rattle.series.specs.Degree.{below}
-use Rattle.series.specs.Value.{value, value-cong, value-more, value-split, value-⊞, value-K-⊠, value-sum}
+use Rattle.series.specs.Value.{value, value-cong, value-more, value-split, value-⊞, value-sum}
 use Rattle.series.specs.Interpolation.{Distinct, below-interpolate, interpolate-at, interpolate-unique, interpolate-is}
 use Rattle.reed_solomon.specs.Definition.{root, syndrome, upper, check-symbols, systematic}
 
@@ -37,10 +37,6 @@ syndrome-cong n f g h j = value-cong n f g (root j) h
 pub syndrome-⊞ : (n : ℕ) (f g : Series) (j : ℕ) → syndrome n (f ⊞ g) j ≡ syndrome n f j ⊕ syndrome n g j
 unfolding syndrome
 syndrome-⊞ n f g j = value-⊞ n f g (root j)
-
-pub syndrome-K-⊠ : (n : ℕ) (a : F) (f : Series) (j : ℕ) → syndrome n (K a ⊠ f) j ≡ a ⊙ syndrome n f j
-unfolding syndrome
-syndrome-K-⊠ n a f j = value-K-⊠ n a f (root j)
 
 pub syndrome-sum : (m n : ℕ) (h : ℕ → F) (w : ℕ → Series) (j : ℕ)
     → syndrome n (λ q. sum m (λ i. h i ⊙ w i q)) j ≡ sum m (λ i. h i ⊙ syndrome n (w i) j)
