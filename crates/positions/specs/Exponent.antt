@@ -3,10 +3,11 @@
 --   symbol e      what the byte e stands for
 --   symbols l     an array of such bytes as a series: what they stand for, then zeros
 --   Table t       t holds the symbol of each byte
---   Steps n f s   the first n entries of s are what their exponents lose from a position to the next: i for term i, nothing for a term that is zero
+--   Steps f s     the 32 entries of s are what the exponents of terms f lose from a position to the next: i for term i, nothing for one that is zero
 --
--- Proved: the table of powers with a zero after it is a table (table-set); the exponent of a product with W s (back-less, back-more); a loop that makes
--- steps keeps `Steps` (steps-more), and they serve at every position (steps-terms); what a step makes is the term at the next position (step-term).
+-- Proved: the table of powers with a zero after it is a table (table-set); the exponent of a product with W s (back-less, back-more); a loop that
+-- makes steps keeps `Steps` (steps-none, steps-more), they serve at every position (steps-terms), and what a step makes is the term at the next one
+-- (step-term).
 use Prim.Native.Nat.{ℕ, zero, suc, _+_, _-_, _≤_, _<_}
 use mathlib.Core.Path.{_≡_, refl, sym, ap, ap₂, _∙_}
 use mathlib.Core.Logic.{_≢_, ite, if-pos, if-neg, by-cases}
@@ -14,10 +15,11 @@ use mathlib.Core.List.{List, [], _∷_}
 use native.Mathlib.Decide.{ℕ-discrete, decLt}
 use native.Mathlib.Nat.{not-suc-le-zero, le-of-suc-le-suc}
 use native.Mathlib.Omega.{arith}
-use lib.ListN.{length, getD, set}
+use lib.ListN.{length, getD, set, replicate, getD-replicate}
 use lib.Seq.{getD-set-same, getD-set-other}
 use Rattle.field.specs.Field.{F, 𝟎, α, _⊙_, _≟_, ⊙-comm, one-⊙, zero-⊙, ⊙-factor, of, of-zero, log, log-lt, pow, pow-add, pow-log, pow-nonzero, power-255, power-nonzero}
 use Rattle.series.specs.Series.{Series}
+use Rattle.series.specs.Shift.{cut, cut-low, cut-high}
 use Rattle.series.specs.Array.{read, read-at}
 use Rattle.settle.specs.Locator.{W, W-is}
 use Rattle.positions.specs.Term.{W-power, terms, terms-at}
@@ -90,33 +92,47 @@ back-more e s h b z = by-cases (ℕ-discrete e 255) none some
 
 -- ---- steps
 
-abbrev pub Steps : ℕ → Series → List ℕ → Type 0
-Steps n f s = (i : ℕ) → i < n → getD s i 0 ≡ ite (f i ≟ 𝟎) 0 i
+abbrev pub Steps : Series → List ℕ → Type 0
+Steps f s = (i : ℕ) → i < 32 → getD s i 0 ≡ ite (f i ≟ 𝟎) 0 i
 
-pub steps-more : (i : ℕ) (f : Series) (s : List ℕ) (v : ℕ) → Steps i f s → i < length s → v ≡ ite (f i ≟ 𝟎) 0 i → Steps (i + 1) f (set s i v)
-steps-more i f s v p h e j l =
-    by-cases (ℕ-discrete j i) (λ d. rw d (getD-set-same s i v 0 h ∙ e)) (λ d. getD-set-other s i j v 0 d ∙ p j (omega arith))
+pub steps-none : (f : Series) → Steps (cut 0 f) (replicate 32 0)
+steps-none f i h = getD-replicate 32 i 0 0 h ∙ sym (if-pos (cut 0 f i ≟ 𝟎) (cut-high 0 f i (omega arith)) 0 i)
 
-step-zero : (n : ℕ) (f : Series) (s : List ℕ) (i : ℕ) → Steps n f s → i < n → f i ≡ 𝟎 → getD s i 0 ≡ 0
-step-zero n f s i p h z = p i h ∙ if-pos (f i ≟ 𝟎) z 0 i
+pub steps-more : (i : ℕ) (f : Series) (s : List ℕ) (v : ℕ) → Steps (cut i f) s → i < length s → v ≡ ite (f i ≟ 𝟎) 0 i
+    → Steps (cut (i + 1) f) (set s i v)
+steps-more i f s v p h e j l = by-cases (ℕ-discrete j i) here (λ d. other d (decLt j i))
+  where
+    step : (x y : F) → x ≡ y → ite (x ≟ 𝟎) 0 j ≡ ite (y ≟ 𝟎) 0 j
+    step x y q = ap (λ t. ite (t ≟ 𝟎) 0 j) q
 
-step-other : (n : ℕ) (f : Series) (s : List ℕ) (i : ℕ) → Steps n f s → i < n → f i ≢ 𝟎 → getD s i 0 ≡ i
-step-other n f s i p h z = p i h ∙ if-neg (f i ≟ 𝟎) z 0 i
+    here : j ≡ i → getD (set s i v) j 0 ≡ ite (cut (i + 1) f j ≟ 𝟎) 0 j
+    here d = (rw d (getD-set-same s i v 0 h ∙ e)) ∙ step _ _ (sym (cut-low (i + 1) f j (omega arith)))
+
+    other : j ≢ i → Dec (j < i) → getD (set s i v) j 0 ≡ ite (cut (i + 1) f j ≟ 𝟎) 0 j
+    other d (yes b) = getD-set-other s i j v 0 d ∙ p j l ∙ step _ _ (cut-low i f j b ∙ sym (cut-low (i + 1) f j (omega arith)))
+    other d (no b) =
+        getD-set-other s i j v 0 d ∙ p j l ∙ step _ _ (cut-high i f j (omega arith) ∙ sym (cut-high (i + 1) f j (omega arith)))
+
+step-zero : (f : Series) (s : List ℕ) (i : ℕ) → Steps f s → i < 32 → f i ≡ 𝟎 → getD s i 0 ≡ 0
+step-zero f s i p h z = p i h ∙ if-pos (f i ≟ 𝟎) z 0 i
+
+step-other : (f : Series) (s : List ℕ) (i : ℕ) → Steps f s → i < 32 → f i ≢ 𝟎 → getD s i 0 ≡ i
+step-other f s i p h z = p i h ∙ if-neg (f i ≟ 𝟎) z 0 i
 
 -- a term is zero at one position if it is at another
-pub steps-terms : (n : ℕ) (x : F) (f : Series) (s : List ℕ) → x ≢ 𝟎 → Steps n f s → Steps n (terms x f) s
-steps-terms n x f s h p i l =
+pub steps-terms : (x : F) (f : Series) (s : List ℕ) → x ≢ 𝟎 → Steps f s → Steps (terms x f) s
+steps-terms x f s h p i l =
     by-cases (f i ≟ 𝟎)
-    (λ z. step-zero n f s i p l z ∙ sym (if-pos (terms x f i ≟ 𝟎) (terms-at x f i ∙ ap (λ t. t ⊙ pow x i) z ∙ zero-⊙ _) 0 i))
-    (λ z. step-other n f s i p l z
+    (λ z. step-zero f s i p l z ∙ sym (if-pos (terms x f i ≟ 𝟎) (terms-at x f i ∙ ap (λ t. t ⊙ pow x i) z ∙ zero-⊙ _) 0 i))
+    (λ z. step-other f s i p l z
     ∙ sym (if-neg (terms x f i ≟ 𝟎) (λ e. z (⊙-factor _ _ (pow-nonzero x i h) (⊙-comm _ _ ∙ sym (terms-at x f i) ∙ e))) 0 i))
 
 -- the byte for zero has no step
-pub step-none : (n : ℕ) (l s : List ℕ) (i : ℕ) → Steps n (symbols l) s → i < n → i < length l → getD l i 0 ≡ 255 → getD s i 0 ≡ 0
-step-none n l s i p h b e = step-zero n _ s i p h (symbols-at l i b ∙ ap symbol e ∙ symbol-none)
+pub step-none : (l s : List ℕ) (i : ℕ) → Steps (symbols l) s → i < 32 → i < length l → getD l i 0 ≡ 255 → getD s i 0 ≡ 0
+step-none l s i p h b e = step-zero _ s i p h (symbols-at l i b ∙ ap symbol e ∙ symbol-none)
 
-pub step-term : (n : ℕ) (f : Series) (s : List ℕ) (i : ℕ) (y : F) → Steps n f s → i < n → y ≡ f i ⊙ W (getD s i 0) → y ≡ terms (W 1) f i
-step-term n f s i y p h e =
+pub step-term : (f : Series) (s : List ℕ) (i : ℕ) (y : F) → Steps f s → i < 32 → y ≡ f i ⊙ W (getD s i 0) → y ≡ terms (W 1) f i
+step-term f s i y p h e =
     e ∙ by-cases (f i ≟ 𝟎)
     (λ z. rw (terms-at, z) (zero-⊙ _ ∙ sym (zero-⊙ _)))
-    (λ z. ap (λ j. f i ⊙ W j) (step-other n f s i p h z) ∙ ap (λ t. f i ⊙ t) (W-power i) ∙ sym (terms-at (W 1) f i))
+    (λ z. ap (λ j. f i ⊙ W j) (step-other f s i p h z) ∙ ap (λ t. f i ⊙ t) (W-power i) ∙ sym (terms-at (W 1) f i))

@@ -2,8 +2,8 @@
 --
 --   terms x f   the terms of f's value at x: coefficient i times x^i
 --
--- Proved: a value is the sum of its terms (value-terms); the terms at W 0 are the coefficients (terms-first), those at W (p + q) come from those at W p
--- (terms-add). Inverse locations multiply as their positions add (W-add), each is a power of the first (W-power), and none is zero (W-nonzero).
+-- Proved: a value is the sum of its terms (value-terms); the terms at W 0 are the coefficients (terms-first), those at W (p + q) come from those at
+-- W p (terms-add). Inverse locations multiply as their positions add (W-add), each is a power of the first (W-power), and none is zero (W-nonzero).
 use Prim.Native.Nat.{ℕ, zero, suc, _+_, _≤_}
 use mathlib.Core.Path.{_≡_, refl, sym, ap, ap₂, _∙_, fun-ext}
 use mathlib.Core.Logic.{_≢_}

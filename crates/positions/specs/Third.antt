@@ -5,16 +5,16 @@
 --   three x a b c    a + b·x + c·x²
 --   Placed p f l     the array l of 255 bytes holds f at the positions q, q + 85 and q + 170, for every q below p
 --
--- Proved: a value at W (p + q) from the thirds at W p, W q being a third root of one (value-three); w·w = w + 1 for w = W 85, so that two products by w
--- are enough (spread-zero, spread-one, spread-two). A loop that adds thirds goes on by third-more and ends by third-all, one that places values by
--- placed-more and placed-all.
-use Prim.Native.Nat.{ℕ, zero, suc, _+_, _*_, _-_, _/_, _%_, _≤_, _<_}
+-- Proved: a value at W (p + q) from the thirds at W p, W q being a third root of one (value-three); w·w = w + 1 for w = W 85, so that two
+-- products by w are enough (spread-zero, spread-one, spread-two). A loop that adds thirds goes on by third-more and ends by third-all, one that places
+-- values by placed-more and placed-all.
+use Prim.Native.Nat.{ℕ, zero, suc, _+_, _*_, _/_, _%_, _≤_, _<_}
 use mathlib.Core.Path.{_≡_, sym, ap, ap₂, _∙_}
 use mathlib.Core.Logic.{_≢_}
 use mathlib.Core.List.{List}
 use native.Mathlib.Decide.{ℕ-discrete}
 use native.Mathlib.Omega.{arith}
-use lib.ListN.{length, set, length-set}
+use lib.ListN.{length, getD, set, length-set}
 use Rattle.field.specs.Field.{F, 𝟎, 𝟏, α, _⊕_, _⊙_, ⊕-self, ⊕-equal, ⊕-group, zero-⊕, ⊙-comm, ⊙-one, one-⊙, ⊙-ring, ⊙-factor, of, of-zero}
 use Rattle.field.specs.Field.{pow, pow-zero, pow-one, pow-suc, pow-add, pow-mul, one-pow, power-apart}
 use Rattle.series.specs.Sum.{sum, sum-none, sum-suc, sum-cong, sum-more, ⊙-sum}
@@ -22,7 +22,8 @@ use Rattle.series.specs.Series.{Series}
 use Rattle.series.specs.Shift.{cut, cut-low, cut-unique}
 use Rattle.series.specs.Degree.{below}
 use Rattle.series.specs.Value.{value, value-cong}
-use Rattle.series.specs.Array.{bytes, below-read, read-set-same, read-set-other}
+use Rattle.series.specs.Array.{bytes, read-at, below-read, read-set-same, read-set-other}
+use Rattle.kernel.specs.Row.{Row, factor, row-at}
 use Rattle.settle.specs.Locator.{W, W-is}
 use Rattle.positions.specs.Term.{W-zero, W-add, terms, terms-at, terms-add, value-terms}
 
@@ -115,6 +116,10 @@ square = ⊕-equal _ _ (⊙-factor (w ⊕ 𝟏) _ apart (product ∙ ap (λ t. t
 
     product : (w ⊕ 𝟏) ⊙ (w ⊙ w ⊕ (w ⊕ 𝟏)) ≡ w ⊙ (w ⊙ w) ⊕ 𝟏
     product = simp ⊙-ring
+
+-- a product by a lookup
+pub product-at : (l : List ℕ) (w : F) (x i : ℕ) → Row l → factor l ≡ w → i ≡ x → i < 256 → of (getD l i 0) ≡ w ⊙ of x
+product-at l w x i p e is h = sym (read-at of 0 l i) ∙ row-at l i p h ∙ ap₂ _⊙_ e (ap of is)
 
 module _ (a b c : F) where
   pub spread-zero : a ⊕ b ⊕ c ≡ three (W 0) a b c

@@ -1,6 +1,6 @@
-// The values of a polynomial at the inverse locations of all positions, three positions at a time. Term i of the value at W p is held as an exponent of α:
-// from a position to the next it loses i, modulo 255, so thirty-two terms go on at once with no product. The 85 positions from p = 0 on do for all
-// 255, since W 85 has order three.
+// The values of a polynomial at the inverse locations of all positions, three positions at a time. Term i of the value at W p is held as an exponent
+// of α: from a position to the next it loses i, modulo 255, so thirty-two terms go on at once with no product. The 85 positions from p = 0 on do for
+// all 255, since W 85 has order three.
 ghost use Prim.Native.Nat.{_+_, _≤_, _<_};
 ghost use mathlib.Core.Path.{_≡_};
 ghost use mathlib.Core.Logic.{ite};
@@ -67,12 +67,15 @@ fn step(e: u8, i: usize) -> u8
     i as u8
 }
 
-fn steps(e: [u8; TERMS]) -> [u8; TERMS]
-    ensures { λ r. ⌜ Steps 32 (symbols e) r ⌝ }
+// Of k terms, and nothing after them. A loop over all 32 would be unrolled, and what it makes put together from pieces again at every turn of
+// `values`.
+fn steps(e: [u8; TERMS], k: usize) -> [u8; TERMS]
+    requires { ⌜ (k ≤ 32) × below k (symbols e) ⌝ }
+    ensures { λ r. ⌜ Steps (symbols e) r ⌝ }
 {
     let mut out = [0u8; TERMS];
     let mut i: usize = 0;
-    while i < TERMS {
+    while i < k {
         out[i] = step(e[i], i);
         i = i + 1;
     }
@@ -92,7 +95,7 @@ fn back(e: u8, s: u8) -> u8
 
 // The terms at the next position: no table and no branch, so the compiler takes sixteen of them at a time.
 fn next(e: [u8; TERMS], step: [u8; TERMS]) -> [u8; TERMS]
-    requires { ⌜ Steps 32 (symbols e) step ⌝ }
+    requires { ⌜ Steps (symbols e) step ⌝ }
     ensures { λ r. ⌜ symbols r ≡ terms (W 1) (symbols e) ⌝ }
 {
     let mut out = [255u8; TERMS];
@@ -157,7 +160,7 @@ pub fn values(f: [Gf; COEFFICIENTS], k: usize) -> [u8; 255]
     power[255] = 0;
     let row = kernel::product_row(Exponent(170).power());
     let mut e = exponents(f, k);
-    let step = steps(e);
+    let step = steps(e, k);
     let mut out = [0u8; 255];
     let mut p: usize = 0;
     while p < 85 {

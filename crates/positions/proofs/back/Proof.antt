@@ -1,5 +1,4 @@
 -- A difference below zero goes on from 255.
-use native.Mathlib.Omega.{arith}
 use Rattle.positions.specs.Exponent.{back-less, back-more}
 use borrow.Author.Needs.{needs}
 use Rattle.positions.proofs.back.Statement.{statement}

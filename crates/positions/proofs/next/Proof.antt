@@ -33,7 +33,7 @@ back-requires : tie.Need-back-requires Inv-loop μ-loop
 back-requires c κs =
     let given = c .before .before in
     let long : length (given .args .t1) ≡ 32 = search needs in
-    step-none 32 (given .args .t1) (given .args .t2) (c .before .loop .i) (given .pre) (omega arith) (omega (arith, long))
+    step-none (given .args .t1) (given .args .t2) (c .before .loop .i) (given .pre) (omega arith) (omega (arith, long))
 
 array-write-out : tie.Need-array-write-out Inv-loop μ-loop
 array-write-out c = search needs
@@ -53,7 +53,7 @@ loop-again c =
       omega arith,
       length-set (now .out) _ _ ∙ now .inv .1,
       read-store symbol 255 (now .out) (now .i) _ _ (omega arith) (now .inv .2)
-          (step-term 32 (symbols e) (given .args .t2) (now .i) _ (given .pre) (omega arith)
+          (step-term (symbols e) (given .args .t2) (now .i) _ (given .pre) (omega arith)
           (c .back .ensures ∙ ap (λ y. y ⊙ W (getD (given .args .t2) (now .i) 0)) (sym (symbols-at e (now .i) (omega (arith, long)))))),
     )
 

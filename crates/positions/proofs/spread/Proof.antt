@@ -1,9 +1,7 @@
 -- With w·b and w·c looked up.
-use mathlib.Core.Path.{_≡_, sym, ap, ap₂, _∙_}
-use Rattle.field.specs.Field.{_⊕_, _⊙_, of, of-xor}
-use Rattle.series.specs.Array.{read-at}
-use Rattle.kernel.specs.Row.{row-at}
-use Rattle.positions.specs.Third.{spread-zero, spread-one, spread-two}
+use mathlib.Core.Path.{ap, ap₂, _∙_}
+use Rattle.field.specs.Field.{_⊕_, of, of-xor}
+use Rattle.positions.specs.Third.{product-at, spread-zero, spread-one, spread-two}
 use borrow.Author.Needs.{needs}
 use Rattle.positions.proofs.spread.Statement.{statement}
 use Rattle.positions.proofs.spread.Tie as tie
@@ -27,8 +25,8 @@ returns c =
     let given = second .before in
     let s = given .args .s in
     let row = given .args .row .now in
-    let b = sym (read-at of 0 row (second .wide .result)) ∙ row-at row (second .wide .result) (given .pre .0) (second .wide .ensures .1) ∙ ap₂ _⊙_ (given .pre .1) (ap of (second .wide .ensures .0)) in
-    let d = sym (read-at of 0 row (third .wide2 .result)) ∙ row-at row (third .wide2 .result) (given .pre .0) (third .wide2 .ensures .1) ∙ ap₂ _⊙_ (given .pre .1) (ap of (third .wide2 .ensures .0)) in (
+    let b = product-at row _ (s .b) _ (given .pre .0) (given .pre .1) (second .wide .ensures .0) (second .wide .ensures .1) in
+    let d = product-at row _ (s .c) _ (given .pre .0) (given .pre .1) (third .wide2 .ensures .0) (third .wide2 .ensures .1) in (
       of-xor _ _ ∙ ap (λ t. t ⊕ of (s .c)) (of-xor _ _) ∙ spread-zero _ _ _,
       of-xor _ _ ∙ ap (λ t. t ⊕ of (s .c)) (of-xor _ _ ∙ ap₂ _⊕_ (of-xor _ _ ∙ ap (λ t. of (s .a) ⊕ t) b) d) ∙ spread-one _ _ _,
       of-xor _ _ ∙ ap₂ _⊕_ (of-xor _ _ ∙ ap (λ t. t ⊕ of (s .b)) (of-xor _ _ ∙ ap (λ t. of (s .a) ⊕ t) b)) d ∙ spread-two _ _ _,

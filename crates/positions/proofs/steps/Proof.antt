@@ -3,22 +3,23 @@ use Prim.Native.Nat.{_-_, _≤_}
 use mathlib.Core.Path.{_≡_, sym, ap, _∙_}
 use mathlib.Core.Logic.{ite}
 use native.Mathlib.Omega.{arith}
-use borrow.Author.Count.{below-none}
 use lib.ListN.{length, length-set}
 use Rattle.field.specs.Field.{𝟎, _≟_}
-use Rattle.positions.specs.Exponent.{symbols, symbols-at, Steps, steps-more}
+use Rattle.series.specs.Shift.{cut}
+use Rattle.series.specs.Degree.{below-cut-eq}
+use Rattle.positions.specs.Exponent.{symbols, symbols-at, Steps, steps-none, steps-more}
 use borrow.Author.Needs.{needs}
 use Rattle.positions.proofs.steps.Statement.{statement}
 use Rattle.positions.proofs.steps.Tie as tie
 
 abbrev Inv-loop : tie.InvT-loop
-Inv-loop e out₀ i₀ out i = (i ≤ 32) × (length out ≡ 32) × Steps i (symbols e) out
+Inv-loop k e out₀ i₀ out i = (i ≤ k) × (length out ≡ 32) × Steps (cut i (symbols e)) out
 
 abbrev μ-loop : tie.MeasureT-loop
-μ-loop e out₀ i₀ out i = 32 - i
+μ-loop k e out₀ i₀ out i = k - i
 
 loop-holds : tie.Need-loop-holds Inv-loop μ-loop
-loop-holds c = (search needs, search needs, below-none _)
+loop-holds c = (search needs, search needs, steps-none _)
 
 array-read-step : tie.Need-array-read-step Inv-loop μ-loop
 array-read-step c = search needs
@@ -49,8 +50,9 @@ loop-again c =
 returns : tie.Need-returns Inv-loop μ-loop
 returns c =
     let end = c .before .loop in
-    let e : end .i ≡ 32 = omega arith in
-    rw e at (end .inv .2)
+    let given = c .before .before in
+    let e : end .i ≡ given .args .k = omega arith in
+    rw (e, below-cut-eq _ _ (given .pre .1)) at (end .inv .2)
 
 pub steps-spec : {M : Type 1} → statement M
 steps-spec =

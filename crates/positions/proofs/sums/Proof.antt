@@ -60,7 +60,8 @@ returns c =
     let end = c .before .loop in
     let given = c .before .before in
     let f = symbols (given .args .e .now) in
-    let all : (a : ℕ) → third a (end .i / 3) f ≡ third a 9 f = λ a. sym (third-all a (given .args .k) (end .i) f (given .pre .3) (c .loop-test .left) (end .inv .0) (end .inv .1)) in
+    let all : (a : ℕ) → third a (end .i / 3) f ≡ third a 9 f =
+    λ a. sym (third-all a (given .args .k) (end .i) f (given .pre .3) (c .loop-test .left) (end .inv .0) (end .inv .1)) in
     (end .inv .2 ∙ all 0, end .inv .3 ∙ all 1, end .inv .4 ∙ all 2)
 
 pub sums-spec : {M : Type 1} → statement M

@@ -20,7 +20,9 @@ returns c =
     let index = c .before .wide in
     let given = c .before .before .before in
     let e = given .args .e .now in
-    given .pre .0 (index .result) (index .ensures .1) ∙ ap symbol (index .ensures .0) ∙ sym (symbols-at e (given .args .i) (omega (arith, given .pre .1, given .pre .2)))
+    given .pre .0 (index .result) (index .ensures .1)
+    ∙ ap symbol (index .ensures .0)
+    ∙ sym (symbols-at e (given .args .i) (omega (arith, given .pre .1, given .pre .2)))
 
 pub term-spec : {M : Type 1} → statement M
 term-spec =

@@ -38,7 +38,7 @@ exponents-requires : tie.Need-exponents-requires Inv-loop μ-loop
 exponents-requires c κs = search needs
 
 steps-requires : tie.Need-steps-requires Inv-loop μ-loop
-steps-requires c κs = search needs
+steps-requires c κs = (search needs, rw (c .exponents .ensures) (below-cut _ _))
 
 loop-holds : tie.Need-loop-holds Inv-loop μ-loop
 loop-holds c = (search needs, search needs, terms-first _, placed-none _ _ (search needs))
@@ -80,7 +80,7 @@ next-requires : tie.Need-next-requires Inv-loop μ-loop
 next-requires c κs =
     let now = c .before .before .before .before .before .before .loop in
     let made = c .before .before .before .before .before .before .before in
-    rw (now .inv .2) (steps-terms 32 (W (now .p)) _ (made .steps .result) (W-nonzero (now .p)) (made .steps .ensures))
+    rw (now .inv .2) (steps-terms (W (now .p)) _ (made .steps .result) (W-nonzero (now .p)) (made .steps .ensures))
 
 add-p : tie.Need-add-p Inv-loop μ-loop
 add-p c = search needs
