@@ -5,22 +5,21 @@ use Prim.Native.Nat.{ℕ, suc, _+_, _-_, _≤_, _<_, _%_}
 use mathlib.Core.Path.{_≡_, sym, ap, ap₂, _∙_}
 use mathlib.Core.Logic.{_≢_}
 use mathlib.Core.Bool.{true, false, true≢false}
-use mathlib.Core.List.{List}
 use native.Mathlib.Numerals.{add-one}
 use native.Mathlib.Omega.{arith}
 use lib.ListN.{set, replicate}
 use Rattle.field.specs.declared.Gf.{Gf}
-use Rattle.field.specs.Field.{F, 𝟎, 𝟏, α, _⊕_, _⊙_, inv, val, log, ⊕-self, ⊕-equal, zero-⊕, ⊙-ring, ⊙-cancel, ⊙-one, ⊙-comm, inv-mul, pow, pow-zero, pow-one, pow-add, pow-log, log-lt, power-inj, power-mod}
+use Rattle.field.specs.Field.{F, 𝟎, 𝟏, α, _⊕_, _⊙_, inv, val, log, ⊕-self, ⊕-equal, zero-⊕, ⊙-ring, ⊙-cancel, ⊙-one, one-⊙, ⊙-comm, mul-inv, inv-mul, inv-unique, pow-zero, pow-one, pow-add, pow-log, log-lt, power-inj, power-mod}
 use Rattle.field.specs.Inverse.{log-inverse}
 use Rattle.series.specs.Series.{Series, O, O-at}
-use Rattle.series.specs.Shift.{cut, cut-none, cut-unique}
+use Rattle.series.specs.Shift.{cut-none, cut-unique}
 use Rattle.series.specs.Degree.{below}
-use Rattle.series.specs.Value.{value, value-none, value-last, value-more, odd, odd-yes, odd-no}
-use Rattle.series.specs.Array.{values, Filled, filled-none, filled-more}
+use Rattle.series.specs.Value.{value, value-none, value-last, odd, odd-yes, odd-no}
+use Rattle.series.specs.Array.{Filled, filled-none, filled-more}
 use Rattle.series.specs.Word.{weight, weight-O, weight-cong, weight-take}
-use Rattle.settle.specs.Locator.{X, W, X-W, lead-inv}
-use Rattle.settle.specs.Candidate.{candidate, candidate-root, candidate-other, hits, hits-root, hits-other}
-use Rattle.candidate.specs.Located.{Walked}
+use Rattle.settle.specs.Locator.{X, W, X-W}
+use Rattle.settle.specs.Candidate.{candidate, candidate-other, hits, hits-root, hits-other}
+use Rattle.candidate.specs.Located.{Walked, candidate-at}
 
 pub log-small : (x : F) (i : ℕ) → i ≡ log x → i < 255
 log-small x i e = omega (arith, log-lt x)
@@ -51,8 +50,18 @@ module _ (Λ Ω : Series) (p : ℕ) (small : p < 255) (nonzero : Λ 0 ≢ 𝟎) 
   root : value 2 Λ (W p) ≡ 𝟎
   root = two-terms Λ (W p) ∙ ap (λ t. Λ 0 ⊕ t) second ∙ ⊕-self (Λ 0)
 
-  bottom : value 2 (odd Λ) (W p) ≡ Λ 0
-  bottom = two-terms (odd Λ) (W p) ∙ rw (odd-no Λ 0 (omega arith), odd-yes Λ 1 (omega arith)) (zero-⊕ _ ∙ second)
+  bottom : value 2 (odd Λ) (W p) ≡ Λ 1 ⊙ W p
+  bottom = two-terms (odd Λ) (W p) ∙ rw (odd-no Λ 0 (omega arith), odd-yes Λ 1 (omega arith)) (zero-⊕ _)
+
+  -- w goes out of Forney's formula
+  quotient : (t : F) → Λ 1 ≢ 𝟎 → W p ⊙ t ⊙ inv (Λ 1 ⊙ W p) ≡ t ⊙ inv (Λ 1)
+  quotient t h =
+      let e : Λ 1 ⊙ W p ⊙ (X p ⊙ inv (Λ 1)) ≡ X p ⊙ W p ⊙ (Λ 1 ⊙ inv (Λ 1)) = simp ⊙-ring in
+      let f : W p ⊙ t ⊙ (X p ⊙ inv (Λ 1)) ≡ X p ⊙ W p ⊙ (t ⊙ inv (Λ 1)) = simp ⊙-ring in
+      ap (λ s. W p ⊙ t ⊙ s) (inv-unique _ _ (e ∙ ap₂ _⊙_ (X-W p) (mul-inv (Λ 1) h) ∙ ⊙-one 𝟏))
+      ∙ f
+      ∙ ap (λ s. s ⊙ (t ⊙ inv (Λ 1))) (X-W p)
+      ∙ one-⊙ _
 
   -- no other position
   apart : (q : ℕ) → q < p → value 2 Λ (W q) ≢ 𝟎
@@ -74,15 +83,14 @@ module _ (Λ Ω : Series) (p : ℕ) (small : p < 255) (nonzero : Λ 0 ≢ 𝟎) 
         is = blank .is ∙ cut-none O ∙ sym (cut-unique p _ O (λ q l. candidate-other 2 Λ Ω q (apart q l) ∙ sym (O-at q)) (λ q l. O-at q));
       }
 
-  pub one-found : (n m : ℕ) (y : Gf) (a : F) → p < n → below m Ω → m ≤ 2 → val y ≡ W p ⊙ value m Ω (W p) ⊙ inv a → a ≡ Λ 0
+  pub one-found : (n m : ℕ) (y : Gf) (b : F) → p < n → below m Ω → m ≤ 2 → Λ 1 ≢ 𝟎 → val y ≡ value m Ω (W p) ⊙ inv b → b ≡ Λ 1
       → Walked n 2 1 Λ Ω true (set (replicate 255 (record { 0 = 0 })) p y)
-  one-found n m y a h b l e first = record {
+  one-found n m y b h few l other e is = record {
     end = p + 1;
     room = omega arith;
     is = filled-more y nothing-before small
-        (e ∙ ap (λ t. W p ⊙ value m Ω (W p) ⊙ inv t) first ∙ sym (candidate-root 2 Λ Ω p root
-        ∙ ap₂ (λ s t. s ⊙ value 2 Ω (W p) ⊙ inv t) (lead-inv p) bottom
-        ∙ ap (λ t. W p ⊙ t ⊙ inv (Λ 0)) (value-more m 2 Ω (W p) b l))) .is;
+        (e ∙ ap (λ t. value m Ω (W p) ⊙ inv t) is ∙ sym (candidate-at 2 m Λ Ω p root few l
+        ∙ ap (λ t. W p ⊙ value m Ω (W p) ⊙ inv t) bottom ∙ quotient _ other)) .is;
     all = λ _. rw add-one (weight-take p (hits 2 Λ) (hits-root 2 Λ p root) ∙ ap suc (no-hits p (omega arith)));
     few = λ f. absurd (true≢false f);
   }

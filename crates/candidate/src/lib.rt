@@ -1,24 +1,20 @@
 // The error pattern that a locator puts forward, whatever the locator is. What the promises speak of stands in settle's specs/Candidate.antt, and for
 // the walk over the positions in specs/Located.antt.
-// One root is found by logarithms. For more a walk: at position p, with w = W p, stand the terms of the locator's value at w; from a position to the
-// next term i is multiplied by W i, by a row of products. At a root the locator and the numerator put a change forward.
-ghost use Prim.Native.Nat.{_+_, _-_, _≤_, _<_};
+// One root is found by logarithms. For more a walk over the locator's values at all positions: where it is zero, the locator and the numerator put a
+// change forward.
+ghost use Prim.Native.Nat.{_+_, _≤_};
 ghost use mathlib.Core.Path.{_≡_};
-ghost use mathlib.Core.Logic.{_≢_, ite};
+ghost use mathlib.Core.Logic.{_≢_};
 ghost use lib.ListN.{length};
-ghost use Rattle.field.specs.Field.{𝟎, _⊙_, _≟_, inv, val};
-ghost use Rattle.series.specs.Sum.{sum};
+ghost use Rattle.field.specs.Field.{𝟎, _⊙_, inv, val};
 ghost use Rattle.series.specs.Shift.{cut};
-ghost use Rattle.series.specs.Degree.{below};
 ghost use Rattle.series.specs.Value.{value, odd};
 ghost use Rattle.series.specs.Array.{bytes};
 ghost use Rattle.polynomial.specs.Polynomial.{poly};
 ghost use Rattle.settle.specs.Locator.{W};
-ghost use Rattle.candidate.specs.Walk.{terms, Rows};
 ghost use Rattle.candidate.specs.Located.{Walked};
 use field::Exponent;
 use field::Gf;
-use kernel::wide;
 use polynomial::COEFFICIENTS;
 
 // Coefficients of a locator of 24 changes.
@@ -30,131 +26,34 @@ pub struct Located {
     pub pattern: [Gf; 255],
 }
 
-// Row i multiplies by W i, for i from 1 to k - 1: the term with no z is the same everywhere, and has none.
-fn step_rows(k: usize) -> [[u8; 256]; TERMS]
-    requires { ⌜ (0 < k) × (k ≤ 25) ⌝ }
-    ensures { λ r. ⌜ Rows k r ⌝ }
-{
-    let blank = [0u8; 256];
-    let mut rows = [blank; TERMS];
-    let mut i: usize = 1;
-    while i < k {
-        let row = kernel::product_row(Exponent(255 - i).power());
-        rows[i] = row;
-        i = i + 1;
-    }
-    rows
-}
-
-// The terms at position 0: the first k coefficients.
-fn first_terms(f: [Gf; COEFFICIENTS], k: usize) -> [u8; TERMS]
+// The first k coefficients, those of even powers zero.
+fn odd_part(f: [Gf; COEFFICIENTS], k: usize) -> [u8; TERMS]
     requires { ⌜ k ≤ 25 ⌝ }
-    ensures { λ r. ⌜ bytes r ≡ cut k (poly f) ⌝ }
+    ensures { λ r. ⌜ bytes r ≡ cut k (odd (poly f)) ⌝ }
 {
     let mut out = [0u8; TERMS];
-    let mut i: usize = 0;
+    let mut i: usize = 1;
     while i < k {
         let g = f[i];
         out[i] = g.0;
-        i = i + 1;
+        i = i + 2;
     }
     out
 }
 
-// The sum of the first k terms.
-fn total(at: &[u8], k: usize) -> Gf
-    requires { ⌜ k ≤ length (now at) ⌝ }
-    ensures { λ r. ⌜ val r ≡ sum k (bytes (now (at .entry))) ⌝ }
-{
-    let mut v: u8 = 0;
-    let mut i: usize = 0;
-    while i < k {
-        v = v ^ at[i];
-        i = i + 1;
-    }
-    Gf(v)
-}
-
-// The sum of those with odd powers.
-fn odd_total(at: &[u8], k: usize) -> Gf
-    requires { ⌜ (k ≤ length (now at)) × below k (bytes (now at)) ⌝ }
-    ensures { λ r. ⌜ val r ≡ sum k (odd (bytes (now (at .entry)))) ⌝ }
-{
-    let mut v: u8 = 0;
-    let mut i: usize = 1;
-    while i < k {
-        v = v ^ at[i];
-        i = i + 2;
-    }
-    Gf(v)
-}
-
-// The terms at the next position, and their sum.
-fn advance(rows: &[[u8; 256]; TERMS], at: &mut [u8], k: usize) -> Gf
-    requires { ⌜ (0 < k) × (k ≤ 25) × (k ≤ length (now at)) × Rows k (now rows) × below k (bytes (now at)) ⌝ }
-    ensures { λ r. ⌜ (bytes (now (at .exit)) ≡ terms (W 1) (bytes (now (at .entry)))) × (val r ≡ sum k (bytes (now (at .exit)))) ⌝ }
-{
-    let mut v: u8 = at[0];
-    let mut i: usize = 1;
-    while i < k {
-        let x = rows[i][wide(at[i])];
-        at[i] = x;
-        v = v ^ x;
-        i = i + 1;
-    }
-    Gf(v)
-}
-
-// The value of a word at w: by products where the word is short, else by a row of products, which costs as much as a few of them.
-fn value_at(w: Gf, word: &[u8]) -> Gf
-    ensures { λ r. ⌜ val r ≡ value (length (now (word .entry))) (bytes (now (word .entry))) (val w) ⌝ }
-{
-    if word.len() > 4 {
-        let row = kernel::product_row(w);
-        return kernel::value(&row, word);
-    }
-    let mut v: u8 = 0;
-    let mut i: usize = word.len();
-    while i > 0 {
-        i -= 1;
-        v = kernel::multiply(w.0, v) ^ word[i];
-    }
-    Gf(v)
-}
-
-// Forney's formula at position p, the odd part's value being the denominator.
-fn forney(p: usize, denominator: Gf, numerator: &[u8]) -> Gf
+// Forney's formula at position p: one row of products serves both values.
+fn forney(p: usize, denominator: &[u8], numerator: &[u8]) -> Gf
     requires { ⌜ p ≤ 255 ⌝ }
     ensures { λ r. ⌜ val r ≡
-        W p ⊙ value (length (now (numerator .entry))) (bytes (now (numerator .entry))) (W p) ⊙ inv (val denominator) ⌝ }
+        W p ⊙ value (length (now (numerator .entry))) (bytes (now (numerator .entry))) (W p)
+        ⊙ inv (value (length (now (denominator .entry))) (bytes (now (denominator .entry))) (W p)) ⌝ }
 {
     let w = Exponent(255 - p).power();
-    let top = value_at(w, numerator);
+    let row = kernel::product_row(w);
+    let top = kernel::value(&row, numerator);
+    let bottom = kernel::value(&row, denominator);
     let scaled = kernel::product(w, top);
-    kernel::product(scaled, denominator.inverse())
-}
-
-// What is put forward at position p, v being the locator's value there.
-fn change(p: usize, v: Gf, at: &[u8], k: usize, numerator: &[u8]) -> Gf
-    requires { ⌜ (p ≤ 255) × (k ≤ length (now at)) × below k (bytes (now at)) ⌝ }
-    ensures { λ r. ⌜ val r ≡ ite (val v ≟ 𝟎)
-        (W p ⊙ value (length (now (numerator .entry))) (bytes (now (numerator .entry))) (W p) ⊙ inv (sum k (odd (bytes (now (at .entry)))))) 𝟎 ⌝ }
-{
-    if !v.is_zero() {
-        return Gf::ZERO;
-    }
-    forney(p, odd_total(at, k), numerator)
-}
-
-// How many roots are missing after a position with the value v.
-fn still_missing(missing: usize, v: Gf) -> usize
-    requires { ⌜ 0 < missing ⌝ }
-    ensures { λ r. ⌜ r ≡ ite (val v ≟ 𝟎) (missing - 1) missing ⌝ }
-{
-    if v.is_zero() {
-        return missing - 1;
-    }
-    missing
+    kernel::product(scaled, bottom.inverse())
 }
 
 // From position 0 on, until no root is missing, or the positions that are left are fewer than the roots that are.
@@ -163,9 +62,8 @@ fn walk(locator: [Gf; COEFFICIENTS], numerator: &[u8], roots: usize, n: usize) -
     ensures { λ r. ⌜ Walked n (roots + 1) roots (poly locator) (bytes (now (numerator .entry))) (r .whole) (r .pattern) ⌝ }
 {
     let k = roots + 1;
-    let rows = step_rows(k);
-    let mut at = first_terms(locator, k);
-    let mut v = total(&at, k);
+    let values = positions::values(locator, k);
+    let odds = odd_part(locator, k);
     let mut pattern = [Gf::ZERO; 255];
     let mut missing: usize = roots;
     let mut p: usize = 0;
@@ -176,9 +74,11 @@ fn walk(locator: [Gf; COEFFICIENTS], numerator: &[u8], roots: usize, n: usize) -
                 pattern: pattern,
             };
         }
-        pattern[p] = change(p, v, &at, k, numerator);
-        missing = still_missing(missing, v);
-        v = advance(&rows, &mut at, k);
+        let v = Gf(values[p]);
+        if v.is_zero() {
+            pattern[p] = forney(p, &odds[..k], numerator);
+            missing = missing - 1;
+        }
         p = p + 1;
     }
     Located {
@@ -187,8 +87,21 @@ fn walk(locator: [Gf; COEFFICIENTS], numerator: &[u8], roots: usize, n: usize) -
     }
 }
 
-// A locator of two terms has its one root at W p if its second coefficient is α^p times its first one: logarithms give p. There the odd part is the
-// first coefficient.
+// The value of a word at w by products, for a word so short that a row of them would cost more.
+fn short_value(w: Gf, word: &[u8]) -> Gf
+    ensures { λ r. ⌜ val r ≡ value (length (now (word .entry))) (bytes (now (word .entry))) (val w) ⌝ }
+{
+    let mut v: u8 = 0;
+    let mut i: usize = word.len();
+    while i > 0 {
+        i -= 1;
+        v = kernel::multiply(w.0, v) ^ word[i];
+    }
+    Gf(v)
+}
+
+// A locator of two terms has its one root at W p if its second coefficient is α^p times its first one: logarithms give p. There the odd part is W p
+// times the second coefficient, so that the change is the numerator's value divided by that.
 fn locate_one(locator: [Gf; COEFFICIENTS], numerator: &[u8], n: usize) -> Located
     requires { ⌜ (n ≤ 255) × (length (now numerator) ≤ 2) × (poly locator 0 ≢ 𝟎) × (poly locator 1 ≢ 𝟎) ⌝ }
     ensures { λ r. ⌜ Walked n 2 1 (poly locator) (bytes (now (numerator .entry))) (r .whole) (r .pattern) ⌝ }
@@ -205,7 +118,8 @@ fn locate_one(locator: [Gf; COEFFICIENTS], numerator: &[u8], n: usize) -> Locate
             pattern: pattern,
         };
     }
-    pattern[p] = forney(p, a, numerator);
+    let top = short_value(Exponent(255 - p).power(), numerator);
+    pattern[p] = kernel::product(top, b.inverse());
     Located {
         whole: true,
         pattern: pattern,

@@ -1,9 +1,9 @@
 -- Where there is one root its two coefficients are not zero; else the walk answers.
 use Prim.Native.Nat.{_+_}
-use mathlib.Core.Path.{_≡_, sym, ap, _∙_, subst}
+use mathlib.Core.Path.{_≡_, sym, _∙_, subst}
 use native.Mathlib.Omega.{arith}
 use borrow.Author.Tests.{not-true}
-use Rattle.field.specs.Field.{𝟎, isZero-false}
+use Rattle.field.specs.Field.{isZero-false}
 use Rattle.series.specs.Array.{bytes}
 use Rattle.polynomial.specs.Polynomial.{poly, poly-at}
 use Rattle.candidate.specs.Located.{Walked}

@@ -1,10 +1,12 @@
 -- The position by logarithms: there is the root, and at no position before it.
-use mathlib.Core.Path.{sym, ap, _∙_}
+use mathlib.Core.Path.{sym, ap, ap₂, _∙_}
 use native.Mathlib.Omega.{arith}
 use lib.ListN.{length}
-use Rattle.field.specs.Field.{of, of-zero, log}
-use Rattle.series.specs.Array.{below-read}
+use Rattle.field.specs.Field.{_⊙_, of, of-zero, log}
+use Rattle.series.specs.Value.{value}
+use Rattle.series.specs.Array.{bytes, below-read}
 use Rattle.polynomial.specs.Polynomial.{poly-at}
+use Rattle.settle.specs.Locator.{W-is}
 use Rattle.candidate.specs.One.{log-small, one-place, one-found, one-none}
 use borrow.Author.Needs.{needs}
 use Rattle.candidate.proofs.locate_one.Statement.{statement}
@@ -36,21 +38,37 @@ returns c =
     let place = one-place _ _ _ _ (given .pre .2) (given .pre .3) (logs .before .log .ensures ∙ ap log (sym (poly-at f 0 (omega arith)))) (logs .log2 .ensures ∙ ap log (sym (poly-at f 1 (omega arith)))) in
     one-none _ _ _ (omega arith) (given .pre .2) place _ (omega arith)
 
-forney-requires : tie.Need-forney-requires
-forney-requires c κs = search needs
+sub-t18 : tie.Need-sub-t18
+sub-t18 c = search needs
+
+power-requires : tie.Need-power-requires
+power-requires c κs = search needs
+
+short-value-requires : tie.Need-short-value-requires
+short-value-requires c κs = search needs
+
+inverse-requires : tie.Need-inverse-requires
+inverse-requires c κs = search needs
+
+product-requires : tie.Need-product-requires
+product-requires c κs = search needs
 
 array-set-from-pattern : tie.Need-array-set-from-pattern
 array-set-from-pattern c = search needs
 
 returns-2 : tie.Need-returns-2
 returns-2 c =
-    let logs = c .before .before .before .before in
+    let at = c .before .before .before in
+    let logs = at .before .before .before .before in
     let given = logs .before .before .before .before .before in
     let f = given .args .t1 in
-    let first = sym (poly-at f 0 (omega arith)) in
-    let place = one-place _ _ _ _ (given .pre .2) (given .pre .3) (logs .before .log .ensures ∙ ap log first) (logs .log2 .ensures ∙ ap log (sym (poly-at f 1 (omega arith)))) in
-    one-found _ _ _ (omega arith) (given .pre .2) place _ (length (given .args .numerator .now)) _ _ (omega arith) (below-read of 0 of-zero _) (given .pre .1)
-    (c .forney .ensures) first
+    let word = given .args .numerator .now in
+    let second = sym (poly-at f 1 (omega arith)) in
+    let place = one-place _ _ _ _ (given .pre .2) (given .pre .3) (logs .before .log .ensures ∙ ap log (sym (poly-at f 0 (omega arith)))) (logs .log2 .ensures ∙ ap log second) in
+    one-found _ _ _ (omega arith) (given .pre .2) place _ (length word) _ _ (omega arith) (below-read of 0 of-zero _) (given .pre .1) (given .pre .3)
+    (c .product .ensures
+    ∙ ap₂ _⊙_ (c .before .before .short-value .ensures ∙ ap (value (length word) (bytes word)) (at .power .ensures ∙ sym (W-is _ (omega arith)))) (c .before .inverse .ensures))
+    second
 
 pub locate-one-spec : {M : Type 1} → statement M
 locate-one-spec =
@@ -63,6 +81,10 @@ locate-one-spec =
     sub-p
     add-p
     returns
-    forney-requires
+    sub-t18
+    power-requires
+    short-value-requires
+    inverse-requires
+    product-requires
     array-set-from-pattern
     returns-2)

@@ -1,41 +1,40 @@
--- The walk stands at position p.
+-- The walk stands at position p, for whatever locator has these values and this odd part.
 use Prim.Native.Nat.{_-_, _≤_}
-use mathlib.Core.Path.{_≡_}
+use mathlib.Core.Path.{_≡_, sym, ap, _∙_}
+use mathlib.Core.Logic.{⊎-elim}
 use native.Mathlib.Omega.{arith}
 use lib.ListN.{length}
-use Rattle.field.specs.Field.{of, of-zero, val}
-use Rattle.series.specs.Degree.{below-cut}
-use Rattle.series.specs.Array.{bytes, below-read}
-use Rattle.candidate.specs.Located.{Walking, walking-start, walking-below, walking-more, walked-all, walked-few, walked-cut}
+use lib.Seq.{length-take-le}
+use Rattle.field.specs.Field.{of, of-zero, val-of, isZero-true, isZero-false}
+use Rattle.series.specs.Series.{Series}
+use Rattle.series.specs.Shift.{cut, cut-low}
+use Rattle.series.specs.Value.{value, odd}
+use Rattle.series.specs.Array.{bytes, read-at, below-read}
+use Rattle.settle.specs.Locator.{W}
+use Rattle.candidate.specs.Odd.{odds-value}
+use Rattle.candidate.specs.Located.{Walking, walking-start, walking-root, walking-other, walked-all, walked-few}
 use borrow.Author.Needs.{needs}
 use Rattle.candidate.proofs.walk.Statement.{statement}
 use Rattle.candidate.proofs.walk.Tie as tie
 
 abbrev Inv-loop : tie.InvT-loop
-Inv-loop numerator roots n k rows at₀ v₀ pattern₀ missing₀ p₀ at v pattern missing p = (p ≤ n) × (length at ≡ 25) × Walking k roots (bytes at₀) (bytes numerator) p missing at (val v) pattern
+Inv-loop numerator roots n k values odds pattern₀ missing₀ p₀ pattern missing p =
+    (p ≤ n) × ((Λ : Series) → bytes values ≡ cut 255 (λ q. value k Λ (W q)) → bytes odds ≡ cut k (odd Λ) → Walking k roots Λ (bytes numerator) p missing pattern)
 
 abbrev μ-loop : tie.MeasureT-loop
-μ-loop numerator roots n k rows at₀ v₀ pattern₀ missing₀ p₀ at v pattern missing p = 255 - p
+μ-loop numerator roots n k values odds pattern₀ missing₀ p₀ pattern missing p = 255 - p
 
 add-k : tie.Need-add-k Inv-loop μ-loop
 add-k c = search needs
 
-step-rows-requires : tie.Need-step-rows-requires Inv-loop μ-loop
-step-rows-requires c κs = search needs
+values-requires : tie.Need-values-requires Inv-loop μ-loop
+values-requires c κs = search needs
 
-first-terms-requires : tie.Need-first-terms-requires Inv-loop μ-loop
-first-terms-requires c κs = search needs
-
-slice-aggregate-total : tie.Need-slice-aggregate-total Inv-loop μ-loop
-slice-aggregate-total c = search needs
-
-total-requires : tie.Need-total-requires Inv-loop μ-loop
-total-requires c κs = search needs
+odd-part-requires : tie.Need-odd-part-requires Inv-loop μ-loop
+odd-part-requires c κs = search needs
 
 loop-holds : tie.Need-loop-holds Inv-loop μ-loop
-loop-holds c =
-    let made = c .before .before in
-    (search needs, search needs, walking-start _ _ (rw (made .first-terms .ensures) (below-cut _ _)) (c .total .ensures))
+loop-holds c = (search needs, λ Λ is odd-is. walking-start)
 
 sub-if1 : tie.Need-sub-if1 Inv-loop μ-loop
 sub-if1 c = search needs
@@ -43,29 +42,28 @@ sub-if1 c = search needs
 returns : tie.Need-returns Inv-loop μ-loop
 returns c =
     let now = c .before .before .loop in
-    walked-cut (c .before .before .before .before .before .first-terms .ensures) (walked-few (now .inv .2) _ (now .inv .0) (omega arith))
+    walked-few (now .inv .1 _ (c .before .before .before .before .values .ensures) (c .before .before .before .odd-part .ensures)) _ (now .inv .0) (omega arith)
 
-slice-aggregate-change : tie.Need-slice-aggregate-change Inv-loop μ-loop
-slice-aggregate-change c = search needs
+array-read-t20 : tie.Need-array-read-t20 Inv-loop μ-loop
+array-read-t20 c = search needs
 
-change-requires : tie.Need-change-requires Inv-loop μ-loop
-change-requires c κs =
-    let now = c .before .before .before .loop in
-    (omega arith, omega arith, walking-below (now .inv .2))
+is-zero-requires : tie.Need-is-zero-requires Inv-loop μ-loop
+is-zero-requires c κs = search needs
+
+array-share-prefix-odds : tie.Need-array-share-prefix-odds Inv-loop μ-loop
+array-share-prefix-odds c = search needs
+
+slice-aggregate-forney : tie.Need-slice-aggregate-forney Inv-loop μ-loop
+slice-aggregate-forney c = sym (length-take-le _ (c .before .before .before .before .before .before .odd-part .result) (omega arith))
+
+forney-requires : tie.Need-forney-requires Inv-loop μ-loop
+forney-requires c κs = search needs
 
 array-set-from-pattern : tie.Need-array-set-from-pattern Inv-loop μ-loop
 array-set-from-pattern c = search needs
 
-still-missing-requires : tie.Need-still-missing-requires Inv-loop μ-loop
-still-missing-requires c κs = search needs
-
-slice-aggregate-advance : tie.Need-slice-aggregate-advance Inv-loop μ-loop
-slice-aggregate-advance c = search needs
-
-advance-requires : tie.Need-advance-requires Inv-loop μ-loop
-advance-requires c κs =
-    let now = c .before .before .before .before .before .before .before .loop in
-    (omega arith, omega arith, omega arith, c .before .before .before .before .before .before .before .before .before .before .before .step-rows .ensures, walking-below (now .inv .2))
+sub-missing : tie.Need-sub-missing Inv-loop μ-loop
+sub-missing c = search needs
 
 add-p : tie.Need-add-p Inv-loop μ-loop
 add-p c = search needs
@@ -75,20 +73,25 @@ loop-less c = search needs
 
 loop-again : tie.Need-loop-again Inv-loop μ-loop
 loop-again c =
-    let changed = c .before .before .before .before .before in
-    let now = changed .before .before .before .before .loop in
-    let given = changed .before .before .before .before .before .before .before .before .before .before in
-    let on = c .before .advance .ensures in (
+    let now = c .before .before .before .before .loop in
+    let made = c .before .before .before .before .before .odd-part .result in
+    let given = c .before .before .before .before .before .before .before .before in
+    let test = sym (c .before .is-zero .ensures) in (
       omega arith,
-      omega (arith, c .at4 .given),
-      walking-more (now .inv .2) (length (given .args .numerator .now)) _ _ _ _ (below-read of 0 of-zero _) (given .pre .2) (omega arith) (omega arith)
-          (changed .change .ensures) (c .before .before .before .before .still-missing .ensures) (on .0) (on .1),
+      λ Λ is odd-is.
+          let at = now .inv .1 Λ is odd-is in
+          let here = sym (cut-low 255 _ (now .p) (omega arith)) ∙ ap (λ (f : Series). f (now .p)) (sym is) ∙ read-at of 0 _ (now .p) ∙ sym (val-of _) in
+          ⊎-elim
+          (λ w. walking-root at (length (given .args .numerator .now)) _ _ _ _ (here ∙ isZero-true _ (test ∙ w .0 .taken)) (below-read of 0 of-zero _) (given .pre .2) (omega arith) (omega arith)
+          (w .2 .ensures) (odds-value _ Λ made _ (omega arith) odd-is) (w .3) (w .4))
+          (λ w. walking-other at _ _ (λ z. isZero-false _ (test ∙ w .0 .left) (sym here ∙ z)) (w .1) (w .2))
+          (c .if2 .came),
     )
 
 returns-2 : tie.Need-returns-2 Inv-loop μ-loop
 returns-2 c =
     let end = c .before .loop in
-    walked-cut (c .before .before .before .before .first-terms .ensures) (walked-all (end .inv .2) _ (end .inv .0) (omega arith))
+    walked-all (end .inv .1 _ (c .before .before .before .values .ensures) (c .before .before .odd-part .ensures)) _ (end .inv .0) (omega arith)
 
 pub walk-spec : {M : Type 1} → statement M
 walk-spec =
@@ -97,19 +100,18 @@ walk-spec =
     Inv-loop
     μ-loop
     add-k
-    step-rows-requires
-    first-terms-requires
-    slice-aggregate-total
-    total-requires
+    values-requires
+    odd-part-requires
     loop-holds
     sub-if1
     returns
-    slice-aggregate-change
-    change-requires
+    array-read-t20
+    is-zero-requires
+    array-share-prefix-odds
+    slice-aggregate-forney
+    forney-requires
     array-set-from-pattern
-    still-missing-requires
-    slice-aggregate-advance
-    advance-requires
+    sub-missing
     add-p
     loop-less
     loop-again

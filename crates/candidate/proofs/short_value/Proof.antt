@@ -4,14 +4,13 @@ use mathlib.Core.Path.{_≡_, sym, ap, ap₂, _∙_}
 use native.Mathlib.Nat.{sub-zero}
 use native.Mathlib.Omega.{arith}
 use lib.ListN.{length}
-use Rattle.field.specs.Field.{F, _⊕_, _⊙_, of, of-zero, of-xor, val, val-of}
+use Rattle.field.specs.Field.{_⊕_, _⊙_, of, of-zero, of-xor, val, val-of}
 use Rattle.series.specs.Shift.{drop, drop-none}
 use Rattle.series.specs.Value.{value, value-none, value-horner}
 use Rattle.series.specs.Array.{bytes, read-at}
-use Rattle.kernel.specs.Row.{row-products, factor-products}
 use borrow.Author.Needs.{needs}
-use Rattle.candidate.proofs.value_at.Statement.{statement}
-use Rattle.candidate.proofs.value_at.Tie as tie
+use Rattle.candidate.proofs.short_value.Statement.{statement}
+use Rattle.candidate.proofs.short_value.Tie as tie
 
 abbrev Inv-loop : tie.InvT-loop
 Inv-loop w word v₀ i₀ v i = (i ≤ length word) × (of v ≡ value (length word - i) (drop i (bytes word)) (val w))
@@ -19,23 +18,9 @@ Inv-loop w word v₀ i₀ v i = (i ≤ length word) × (of v ≡ value (length w
 abbrev μ-loop : tie.MeasureT-loop
 μ-loop w word v₀ i₀ v i = i
 
-product-row-requires : tie.Need-product-row-requires Inv-loop μ-loop
-product-row-requires c κs = search needs
-
-slice-aggregate-value : tie.Need-slice-aggregate-value Inv-loop μ-loop
-slice-aggregate-value c = search needs
-
-value-requires : tie.Need-value-requires Inv-loop μ-loop
-value-requires c κs = row-products _ _ (search needs) (c .before .product-row .ensures)
-
-returns : tie.Need-returns Inv-loop μ-loop
-returns c =
-    let word = c .before .before .before .before .before .args .word .now in
-    c .value .ensures ∙ ap (value (length word) (bytes word)) (factor-products _ _ (c .before .before .product-row .ensures))
-
 loop-holds : tie.Need-loop-holds Inv-loop μ-loop
 loop-holds c =
-    let given = c .before .before .args in
+    let given = c .before .args in
     let n = length (given .word .now) in
     let e : n - n ≡ 0 = omega arith in
     (search needs, of-zero ∙ sym (ap (λ k. value k (drop n (bytes (given .word .now))) (val (given .w))) e ∙ value-none _ _))
@@ -55,33 +40,29 @@ loop-less c = search needs
 loop-again : tie.Need-loop-again Inv-loop μ-loop
 loop-again c =
     let now = c .before .before .before .loop in
-    let given = c .before .before .before .before .before .before .args in (
+    let given = c .before .before .before .before .before .args in (
       omega arith,
       of-xor _ _
           ∙ ap₂ _⊕_ (c .before .multiply .ensures ∙ ap₂ _⊙_ (sym (val-of (given .w))) (now .inv .1)) (sym (read-at of 0 _ _))
           ∙ sym (value-horner _ _ _ (now .i) (omega arith) (now .inv .0)),
     )
 
-returns-2 : tie.Need-returns-2 Inv-loop μ-loop
-returns-2 c =
+returns : tie.Need-returns Inv-loop μ-loop
+returns c =
     let end = c .before .loop in
     let e : end .i ≡ 0 = omega arith in
     val-of _ ∙ (rw (e, drop-none, sub-zero) at (end .inv .1))
 
-pub value-at-spec : {M : Type 1} → statement M
-value-at-spec =
+pub short-value-spec : {M : Type 1} → statement M
+short-value-spec =
     tie.close
     (tie.spec
     Inv-loop
     μ-loop
-    product-row-requires
-    slice-aggregate-value
-    value-requires
-    returns
     loop-holds
     sub-i
     multiply-requires
     shared-slice-read-v
     loop-less
     loop-again
-    returns-2)
+    returns)

@@ -1,24 +1,26 @@
--- The first i coefficients stand.
-use Prim.Native.Nat.{_-_, _≤_}
-use mathlib.Core.Path.{_≡_, sym, ap, _∙_}
+-- The first i coefficients stand, i odd: the next one is passed over.
+use Prim.Native.Nat.{_+_, _-_, _≤_, _%_}
+use mathlib.Core.Path.{_≡_, sym, _∙_}
 use native.Mathlib.Omega.{arith}
 use lib.ListN.{length, length-set}
-use Rattle.field.specs.Field.{of, of-zero, val-of}
+use Rattle.field.specs.Field.{val-of}
 use Rattle.series.specs.Shift.{cut}
-use Rattle.series.specs.Array.{bytes, read-zeros, read-store}
+use Rattle.series.specs.Value.{odd}
+use Rattle.series.specs.Array.{bytes}
 use Rattle.polynomial.specs.Polynomial.{poly, poly-at}
+use Rattle.candidate.specs.Odd.{odds-none, odds-more, odds-all}
 use borrow.Author.Needs.{needs}
-use Rattle.candidate.proofs.first_terms.Statement.{statement}
-use Rattle.candidate.proofs.first_terms.Tie as tie
+use Rattle.candidate.proofs.odd_part.Statement.{statement}
+use Rattle.candidate.proofs.odd_part.Tie as tie
 
 abbrev Inv-loop : tie.InvT-loop
-Inv-loop k f out₀ i₀ out i = (i ≤ k) × (length out ≡ 25) × (bytes out ≡ cut i (poly f))
+Inv-loop k f out₀ i₀ out i = (i % 2 ≡ 1) × (i ≤ k + 1) × (length out ≡ 25) × (bytes out ≡ cut i (odd (poly f)))
 
 abbrev μ-loop : tie.MeasureT-loop
-μ-loop k f out₀ i₀ out i = k - i
+μ-loop k f out₀ i₀ out i = k + 1 - i
 
 loop-holds : tie.Need-loop-holds Inv-loop μ-loop
-loop-holds c = (search needs, search needs, read-zeros of 0 of-zero 25 _)
+loop-holds c = (search needs, search needs, search needs, odds-none 25 _)
 
 array-copy-out-g : tie.Need-array-copy-out-g Inv-loop μ-loop
 array-copy-out-g c = search needs
@@ -37,19 +39,18 @@ loop-again c =
     let now = c .before .before .loop in
     let f = c .before .before .before .args .t1 in (
       omega arith,
-      length-set (now .out) _ _ ∙ now .inv .1,
-      read-store of 0 (now .out) (now .i) _ _ (omega arith) (now .inv .2) (sym (poly-at f (now .i) (omega arith) ∙ val-of _)),
+      omega arith,
+      length-set (now .out) _ _ ∙ now .inv .2,
+      odds-more (now .i) _ (poly f) (now .out) (now .inv .0) (omega arith) (now .inv .3) (sym (poly-at f (now .i) (omega arith) ∙ val-of _)),
     )
 
 returns : tie.Need-returns Inv-loop μ-loop
 returns c =
     let end = c .before .loop in
-    let given = c .before .before .args in
-    let e : end .i ≡ given .k = omega arith in
-    end .inv .2 ∙ ap (λ i. cut i (poly (given .t1))) e
+    end .inv .3 ∙ odds-all _ (end .i) _ (end .inv .0) (omega arith) (end .inv .1)
 
-pub first-terms-spec : {M : Type 1} → statement M
-first-terms-spec =
+pub odd-part-spec : {M : Type 1} → statement M
+odd-part-spec =
     tie.close
     (tie.spec
     Inv-loop
