@@ -5,6 +5,6 @@ cd "$(dirname "$0")/.."
 if ! echo '#include <fec.h>' | cc -E - > /dev/null 2>&1; then
     apt-get install -y libfec-dev > /dev/null
 fi
-rt staticlib cabi > /dev/null
-cc -O2 -Wall -Iinclude bench/bench.c target/staticlib/libcabi.a -lfec -o target/bench
+rt staticlib gii > /dev/null
+cc -O2 -Wall -Iinclude bench/bench.c target/staticlib/libgii.a -lfec -o target/bench
 exec target/bench

@@ -1,13 +1,13 @@
 #!/bin/sh
-# Builds the static library of `cabi`, links the C and the Rust program with it, runs both, and compares what they print with `expected`.
+# Builds the static library of `gii`, links the C and the Rust program with it, runs both, and compares what they print with `expected`.
 # It needs rt, cc and rustc on the path, on x86-64 Linux. The gate does not run it.
 set -eu
 cd "$(dirname "$0")/.."
 built=target/examples
 mkdir -p "$built"
-rt staticlib cabi > "$built/staticlib.log" 2>&1 || { cat "$built/staticlib.log"; exit 1; }
-cc -std=c99 -Wall -Wextra -Werror -O2 -I include examples/c/main.c target/staticlib/libcabi.a -o "$built/c"
-rustc --edition 2021 -D warnings -O examples/rust/main.rs -L native=target/staticlib -l static=cabi -o "$built/rust"
+rt staticlib gii > "$built/staticlib.log" 2>&1 || { cat "$built/staticlib.log"; exit 1; }
+cc -std=c99 -Wall -Wextra -Werror -O2 -I include examples/c/main.c target/staticlib/libgii.a -o "$built/c"
+rustc --edition 2021 -D warnings -O examples/rust/main.rs -L native=target/staticlib -l static=gii -o "$built/rust"
 for program in c rust; do
     "$built/$program" > "$built/$program.out"
     diff examples/expected "$built/$program.out"

@@ -1,8 +1,8 @@
 /*
  * gii.h: blocks of nested Reed-Solomon strips (generalized integrated interleaved codes) over GF(256), for C and C++.
  *
- * The functions are those of the crate `cabi`, which is proved to keep the promises below for every input: crates/cabi/src/lib.rt states them,
- * crates/cabi/specs/Definition.antt says what they mean. Link the static library that `rt staticlib cabi` writes, target/staticlib/libcabi.a
+ * The functions are those of the crate `gii`, which is proved to keep the promises below for every input: crates/gii/src/lib.rt states them,
+ * crates/gii/specs/Definition.antt says what they mean. Link the static library that `rt staticlib gii` writes, target/staticlib/libgii.a
  * (x86-64 Linux; it asks for memcpy and memset and nothing else).
  *
  * Buffers. Each one is a pointer and the number of its bytes. Any number is allowed: a wrong one is refused by number and does no harm. The pointer

@@ -1,5 +1,5 @@
 #!/usr/bin/env python3
-"""Makes the input and the expected output of the program card_vectors: python3 make_card_vectors.py MODEL OUT
+"""Makes the input and the expected output of the program test_card: python3 make_card_vectors.py MODEL OUT
 
 MODEL is the folder of the independent model, with its stored cards in vectors/cards (NAME.bin, and NAME.as00.txt, the list as of document 01).
 Each stored card is listed as it is, and the sample card of document 01 is cut at every byte and followed by one byte too many. The lists are the

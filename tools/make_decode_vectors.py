@@ -1,4 +1,4 @@
-"""The test program decode_vectors: its standard input, and its expected output.
+"""The test program test_decode: its standard input, and its expected output.
 
     python3 make_decode_vectors.py MODEL STRIPS CRATE
 
@@ -10,7 +10,7 @@ wrote, CRATE the folder that gets stdin and stdout. No expected line comes from 
 - blocks made here, from a fixed generator: what the model answers in each form, with another way of settling agreeing;
 - libfec's strips: libfec's answer, with the model agreeing.
 
-How a case is written to stdin, and how a reading is printed, stands in crates/decode_vectors/src/main.rt. A table of what the cases cover goes to
+How a case is written to stdin, and how a reading is printed, stands in crates/test_decode/src/main.rt. A table of what the cases cover goes to
 standard error.
 """
 import collections, os, random, sys

@@ -1,4 +1,4 @@
-/* Strips of a second Reed-Solomon program, Debian's libfec (package libfec-dev), for the test program decode_vectors.
+/* Strips of a second Reed-Solomon program, Debian's libfec (package libfec-dev), for the test program test_decode.
  *
  *     cc -O2 make_libfec_strips.c -lfec -o make_libfec_strips
  *     ./make_libfec_strips > strips.txt

@@ -1,2 +1,2 @@
--- The tables that are kept from turn to turn, for users: they stand in the crate `block_line`.
-pub use Rattle.block_line.specs.Definition.{Made, Kept}
+-- The tables that are kept from turn to turn, for users: they stand in BlockLineDefinition.
+pub use Rattle.card.specs.BlockLineDefinition.{Made, Kept}

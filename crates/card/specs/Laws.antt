@@ -13,12 +13,12 @@ use Rattle.profile.specs.declared.Profile.{Profile}
 use Rattle.profile.specs.declared.Parsed.{Parsed}
 use Rattle.profile.specs.declared.Parsed.the-variants.{Accepted, Refused}
 use Rattle.profile.specs.Definition.{profile-of}
-use Rattle.section.specs.declared.Section.{Section}
-use Rattle.section.specs.declared.Section.the-variants.{Size, Bytes, Count, Block, End, Over}
-use Rattle.section.specs.Definition.{good, known, ends, silent, refusal}
-use Rattle.heading.specs.Definition.{profile-step}
-use Rattle.printed.specs.Definition.{count-of}
-use Rattle.printed.specs.Turn.{whole, cut}
+use Rattle.card.specs.declared.section.Section.{Section}
+use Rattle.card.specs.declared.section.Section.the-variants.{Size, Bytes, Count, Block, End, Over}
+use Rattle.card.specs.SectionDefinition.{good, known, ends, silent, refusal}
+use Rattle.card.specs.HeadingDefinition.{profile-step}
+use Rattle.card.specs.PrintedDefinition.{count-of}
+use Rattle.card.specs.PrintedTurn.{whole, cut}
 use Rattle.card.specs.Definition.{Made, Kept}
 
 module _ (t u : List ℕ) where

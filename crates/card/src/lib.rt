@@ -1,21 +1,25 @@
 // A card, section by section: each is judged as it arrives, and a line is printed for it. What a turn comes to, and that turns print the list of the card,
-// stands in the crate `printed`, specs/Turn.antt and specs/Whole.antt.
+// stands in specs/PrintedTurn.antt and specs/PrintedWhole.antt.
+mod block_line;
+mod heading;
+pub mod section;
+
 ghost use Prim.Native.Nat.{_<_};
 ghost use mathlib.Core.Path.{_≡_};
 ghost use mathlib.Core.Bool.{true, _&&_};
 ghost use lib.Dec.{eqb};
 ghost use lib.ListN.{length};
 ghost use Rattle.profile.specs.Definition.{block-size};
-ghost use Rattle.section.specs.Definition.{accepts, good, size as SizeOf, Takes};
-ghost use Rattle.printed.specs.Turn.{whole as Whole, cut as Cut, Turns};
+ghost use Rattle.card.specs.SectionDefinition.{accepts, good, size as SizeOf, Takes};
+ghost use Rattle.card.specs.PrintedTurn.{whole as Whole, cut as Cut, Turns};
 ghost use Rattle.card.specs.Definition.{Made, Kept};
+use crate::section::Section;
+use crate::section::Turn;
 use listing::LINE;
 use profile::Profile;
-use section::Section;
-use section::Turn;
 
 // The entries of a table.
-pub const TABLE: usize = block_line::TABLE;
+pub const TABLE: usize = crate::block_line::TABLE;
 
 // A section is not whole.
 const CUT: u8 = 11;
@@ -42,9 +46,9 @@ fn judge_block(
     ensures { λ r. ⌜ Takes (Whole (Section.Block p i k) (now (block .entry))) (now (line .entry)) r (now (line .exit)) ⌝ }
     ensures made { λ r. ⌜ Made (Section.Block p i k) (now (t .exit)) (now (u .exit)) ⌝ }
 {
-    let size = block_line::print(p, i, kept, t, u, block, line);
+    let size = crate::block_line::print(p, i, kept, t, u, block, line);
     Turn {
-        next: section::block_or_end(p, i + 1, k),
+        next: crate::section::block_or_end(p, i + 1, k),
         size: size,
     }
 }
@@ -63,11 +67,11 @@ fn whole(
     ensures made { λ r. ⌜ Made s (now (t .exit)) (now (u .exit)) ⌝ }
 {
     match s {
-        Section::Size => heading::judge_size(bytes[0], line),
-        Section::Bytes => heading::judge_bytes(bytes, line),
-        Section::Count(p) => heading::judge_count(p, bytes[0], bytes[1], line),
+        Section::Size => crate::heading::judge_size(bytes[0], line),
+        Section::Bytes => crate::heading::judge_bytes(bytes, line),
+        Section::Count(p) => crate::heading::judge_count(p, bytes[0], bytes[1], line),
         Section::Block(p, i, k) => judge_block(p, i, k, kept, t, u, bytes, line),
-        Section::End => heading::refuse(BEYOND, line),
+        Section::End => crate::heading::refuse(BEYOND, line),
         Section::Over => Turn {
             next: Section::Over,
             size: 0,
@@ -79,13 +83,13 @@ fn whole(
 fn cut(s: Section, line: &mut [u8; LINE]) -> Turn
     ensures { λ t. ⌜ Takes (Cut s) (now (line .entry)) t (now (line .exit)) ⌝ }
 {
-    if section::may_end(s) {
+    if crate::section::may_end(s) {
         return Turn {
             next: Section::Over,
             size: 0,
         };
     }
-    heading::refuse(CUT, line)
+    crate::heading::refuse(CUT, line)
 }
 
 // Judges as `judge` does, with room lent for the tables that blocks are divided by. Whoever lends the same room turn after turn says `kept`, and the tables are
@@ -102,8 +106,8 @@ pub fn judge_kept(
     ensures { λ r. ⌜ Turns s (now (bytes .entry)) (now (line .entry)) r (now (line .exit)) ⌝ }
     ensures kept { λ r. ⌜ Kept (r .next) (now (t .exit)) (now (u .exit)) ⌝ }
 {
-    let n = section::wanted(s);
-    let r = section::known(s);
+    let n = crate::section::wanted(s);
+    let r = crate::section::known(s);
     if bytes.len() < n {
         return cut(r, line);
     }

@@ -14,8 +14,8 @@ use Rattle.series.specs.Sum.{sum, sum-cong}
 use Rattle.series.specs.Series.{Series}
 use Rattle.profile.specs.declared.Profile.{Profile}
 use Rattle.profile.specs.Definition.{checks, block-size}
-use Rattle.reed_solomon.specs.Definition.{syndrome}
-use Rattle.reed_solomon.specs.Systematic.{syndrome-cong, syndrome-sum}
+use Rattle.code.specs.Word.{syndrome}
+use Rattle.code.specs.Systematic.{syndrome-cong, syndrome-sum}
 use Rattle.code.specs.Definition.{subword, nested, Codeword, Carries, Encodes}
 
 pub subword-at : (n : ℕ) (s : Series) (i q : ℕ) → subword n s i q ≡ s (i * n + q)

@@ -12,7 +12,7 @@ use Rattle.series.specs.Sum.{sum}
 use Rattle.series.specs.Series.{Series}
 use Rattle.profile.specs.declared.Profile.{Profile}
 use Rattle.profile.specs.Definition.{capability, checks, room, data-start}
-use Rattle.reed_solomon.specs.Definition.{InCode}
+use Rattle.code.specs.Word.{InCode}
 
 -- "A block is m × n bytes, strip after strip. Byte p of strip i is the coefficient of z^p in c_i(z)."
 unfoldable pub subword : ℕ → Series → ℕ → Series

@@ -24,7 +24,7 @@ use Rattle.series.specs.First.{first, first-one}
 use Rattle.profile.specs.declared.Profile.{Profile}
 use Rattle.profile.specs.Definition.{capability, checks, room, data-start, block-size}
 use Rattle.profile.specs.Valid.{Valid}
-use Rattle.reed_solomon.specs.Definition.{syndrome, InCode, systematic}
+use Rattle.code.specs.Word.{syndrome, InCode, systematic}
 use Rattle.code.specs.Definition.{subword, nested, Codeword, Carries, Encodes}
 use Rattle.code.specs.Block.{Agree, agree-block, block-agree, encodes-cong}
 use Rattle.code.specs.Triangle.{carried, carried-cong}

@@ -1,4 +1,6 @@
--- Definition is what the promises speak of.
+-- Word and Definition are what the promises speak of: a Reed-Solomon word, and a codeword.
+pub mod Word
+pub mod Systematic
 pub mod Definition
 pub mod Block
 pub mod Newton

@@ -14,8 +14,8 @@ use Rattle.series.specs.Series.{Series, ⊞-at}
 use Rattle.profile.specs.declared.Profile.{Profile}
 use Rattle.profile.specs.Definition.{checks, room, data-start}
 use Rattle.profile.specs.Valid.{Valid, checks-room}
-use Rattle.reed_solomon.specs.Definition.{syndrome, systematic}
-use Rattle.reed_solomon.specs.Systematic.{syndrome-cong, systematic-data, systematic-zero, systematic-unique}
+use Rattle.code.specs.Word.{syndrome, systematic}
+use Rattle.code.specs.Systematic.{syndrome-cong, systematic-data, systematic-zero, systematic-unique}
 use Rattle.code.specs.Definition.{subword, Encodes}
 use Rattle.code.specs.Block.{Agree}
 use Rattle.code.specs.Triangle.{carried, corner, carried-cong, codeword-triangle, triangle-codeword}

@@ -20,8 +20,8 @@ use Rattle.series.specs.Series.{Series, _⊞_}
 use Rattle.profile.specs.declared.Profile.{Profile}
 use Rattle.profile.specs.Definition.{capability, checks}
 use Rattle.profile.specs.Valid.{Valid, checks-is, checks-high, checks-mono, checks-least}
-use Rattle.reed_solomon.specs.Definition.{syndrome, InCode}
-use Rattle.reed_solomon.specs.Systematic.{syndrome-⊞, syndrome-sum}
+use Rattle.code.specs.Word.{syndrome, InCode}
+use Rattle.code.specs.Systematic.{syndrome-⊞, syndrome-sum}
 use Rattle.code.specs.Definition.{subword, nested, Codeword}
 use Rattle.code.specs.Block.{Agree, syndrome-nested}
 use Rattle.code.specs.Newton.{newton, newton-low, newton-nonzero, newton-zero, power-zero}

@@ -1,4 +1,4 @@
--- What is read: document 01, "Questions, put one by one", then as the reader's Definition says.
+-- What is read: document 01, "Questions, put one by one", then as ReaderDefinition says.
 --
 --   asked d o a        questions 6 and 7 about an input of d and an output of o bytes, put to what was accepted so far
 --   questioned b d o   the profile of the bytes b, or the first question that says no
@@ -12,8 +12,8 @@ use Rattle.profile.specs.declared.Refusal.the-variants.{InputSize, OutputSize}
 use Rattle.profile.specs.declared.Parsed.{Parsed}
 use Rattle.profile.specs.declared.Parsed.the-variants.{Accepted, Refused}
 use Rattle.profile.specs.Definition.{profile-of, ask, block-size}
-use Rattle.staged.specs.Definition.{decode}
-use Rattle.reader.specs.Definition.{Result, refused, concluded}
+use Rattle.staged_decoding.specs.Definition.{decode}
+use Rattle.decoder.specs.PreparedDefinition.{Result, refused, concluded}
 
 -- "Is the input exactly .. m × n (reader ..)?", then "Is the output exactly m × n?"
 abbrev pub asked : ℕ → ℕ → Parsed → Parsed

@@ -2,3 +2,6 @@
 pub mod Definition
 pub mod Laws
 pub mod Theorems
+-- prepared: PreparedDefinition is what the promises speak of; PreparedLaws proves them.
+pub mod PreparedDefinition
+pub mod PreparedLaws

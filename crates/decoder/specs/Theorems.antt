@@ -32,19 +32,19 @@ use Rattle.profile.specs.Valid.{Valid, profile-valid}
 use Rattle.code.specs.Definition.{Codeword}
 use Rattle.code.specs.Block.{agree-block, codeword-cong}
 use Rattle.solver.specs.declared.Form.{Form}
-use Rattle.continuation.specs.Definition.{Ended}
-use Rattle.staged.specs.Definition as staged
-use Rattle.staged.specs.Definition.{Outcome, accepted, failed, foreign, decode}
-use Rattle.staged.specs.Course.{Fails, failed-course}
-use Rattle.staged.specs.Accepted.{accepted-codeword}
-use Rattle.staged.specs.Restorable.{Unmistaken, Restorable, TooMany, Restored}
-use Rattle.staged.specs.Restoring.{restoring-bytes}
-use Rattle.staged.specs.Failing.{failing-exactly}
-use Rattle.staged.specs.Clean.{untouched, decode-codeword}
-use Rattle.turn.specs.declared.Line.{Line}
+use Rattle.solver.specs.ContinuationDefinition.{Ended}
+use Rattle.staged_decoding.specs.Definition as staged
+use Rattle.staged_decoding.specs.Definition.{Outcome, accepted, failed, foreign, decode}
+use Rattle.staged_decoding.specs.Course.{Fails, failed-course}
+use Rattle.staged_decoding.specs.Accepted.{accepted-codeword}
+use Rattle.staged_decoding.specs.Restorable.{Unmistaken, Restorable, TooMany, Restored}
+use Rattle.staged_decoding.specs.Restoring.{restoring-bytes}
+use Rattle.staged_decoding.specs.Failing.{failing-exactly}
+use Rattle.staged_decoding.specs.Clean.{untouched, decode-codeword}
+use Rattle.stages.specs.declared.subword.Line.{Line}
 use Rattle.stages.specs.View.{says, Has}
-use Rattle.reader.specs.declared.Reading.{Reading}
-use Rattle.reader.specs.Definition.{Result, read, concluded, answer-to, block-of, report-of, Gives}
+use Rattle.decoder.specs.declared.prepared.Reading.{Reading}
+use Rattle.decoder.specs.PreparedDefinition.{Result, read, concluded, answer-to, block-of, report-of, Gives}
 use Rattle.decoder.specs.Definition.{questioned, judged, reading}
 
 -- ---- accepted profiles

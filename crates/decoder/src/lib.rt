@@ -1,15 +1,17 @@
 // Reading a block: the questions, then the block with its report, or a refusal. What the promises speak of stands in specs/Definition.antt.
+pub mod prepared;
+
 ghost use mathlib.Core.Path.{_≡_};
 ghost use lib.ListN.{length};
 ghost use Rattle.series.specs.Array.{bytes};
-ghost use Rattle.code.specs.Check.{Fits};
-ghost use Rattle.staged.specs.Definition.{decode as Decode};
-ghost use Rattle.reader.specs.Definition.{concluded, answer-to, block-of, report-of, Tells, Gives};
+ghost use Rattle.block.specs.Parts.{Fits};
+ghost use Rattle.staged_decoding.specs.Definition.{decode as Decode};
+ghost use Rattle.decoder.specs.PreparedDefinition.{concluded, answer-to, block-of, report-of, Tells, Gives};
 ghost use Rattle.decoder.specs.Definition.{asked, questioned, reading};
+use crate::prepared::Reading;
 use profile::Parsed;
 use profile::Profile;
 use profile::Refusal;
-use reader::Reading;
 use solver::Form;
 
 // The questions about the sizes of input and output.
@@ -29,7 +31,7 @@ fn judge(p: Profile, input: usize, output: usize) -> Parsed
 fn questions(profile: &[u8], input: usize, output: usize) -> Parsed
     ensures { λ a. ⌜ a ≡ questioned (now (profile .entry)) input output ⌝ }
 {
-    match parse::parse(profile) {
+    match profile::parse::parse(profile) {
         Parsed::Accepted(p) => judge(p, input, output),
         Parsed::Refused(q) => Parsed::Refused(q),
     }
@@ -40,10 +42,10 @@ fn read(p: Profile, form: Form, input: &[u8], out: &mut [u8]) -> Reading
     requires { ⌜ Fits p (now input) × (length (now out) ≡ length (now input)) ⌝ }
     ensures { λ r. ⌜ Gives form (concluded p (Decode p (bytes (now (input .entry))))) (now (out .entry)) (now (out .exit)) r ⌝ }
 {
-    let mut t = generator::room();
-    let mut u = generator::room();
-    codeword::tables(p, &mut t, &mut u);
-    reader::read(p, form, &t, &u, input, out)
+    let mut t = divider::generator::room();
+    let mut u = divider::generator::room();
+    block::codeword::tables(p, &mut t, &mut u);
+    crate::prepared::read(p, form, &t, &u, input, out)
 }
 
 // Reads a block with the solver in the named form, document 01's reader.
@@ -54,6 +56,6 @@ pub fn decode(profile: &[u8], input: &[u8], out: &mut [u8], form: Form) -> Readi
 {
     match questions(profile, input.len(), out.len()) {
         Parsed::Accepted(p) => read(p, form, input, out),
-        Parsed::Refused(q) => reader::refuse(q, form, out),
+        Parsed::Refused(q) => crate::prepared::refuse(q, form, out),
     }
 }

@@ -19,8 +19,8 @@ use Rattle.profile.specs.Definition.{checks, room, data-start, data-size}
 use Rattle.profile.specs.Valid.{Valid, checks-high, checks-room, data-start-most}
 use Rattle.code.specs.Triangle.{carried, carried-cong}
 use Rattle.code.specs.Right.{Right, right-stays, right-step}
-use Rattle.carry.specs.Subword.{filled, Wrote}
-use Rattle.fours.specs.Fours.{WroteFour}
+use Rattle.encoder.specs.CarrySubword.{filled, Wrote}
+use Rattle.encoder.specs.Fours.{WroteFour}
 
 -- ---- from the last subword to the first
 

@@ -1,12 +1,15 @@
 // Writing a block: the one codeword with the given data in its data positions. Subwords are written from the last to the first.
+mod carry;
+mod fours;
+
 ghost use Prim.Native.Nat.{_≤_};
 ghost use mathlib.Core.Path.{_≡_};
 ghost use lib.ListN.{length};
 ghost use Rattle.series.specs.Array.{bytes};
 ghost use Rattle.profile.specs.Definition.{answer-of, checks as Checks, data-start, data-size as DataSize};
-ghost use Rattle.generator.specs.Table.{Table};
+ghost use Rattle.divider.specs.GeneratorTable.{Table};
 ghost use Rattle.code.specs.Definition.{Encodes};
-ghost use Rattle.code.specs.Check.{Fits};
+ghost use Rattle.block.specs.Parts.{Fits};
 ghost use Rattle.encoder.specs.Definition.{asked, writing, written};
 ghost use Rattle.encoder.specs.Write.{Upper};
 use profile::Answer;
@@ -37,7 +40,7 @@ fn judge(p: Profile, input: usize, output: usize) -> Parsed
 fn questions(profile: &[u8], input: usize, output: usize) -> Parsed
     ensures { λ a. ⌜ a ≡ writing (now (profile .entry)) input output ⌝ }
 {
-    match parse::parse(profile) {
+    match profile::parse::parse(profile) {
         Parsed::Accepted(p) => judge(p, input, output),
         Parsed::Refused(q) => Parsed::Refused(q),
     }
@@ -59,7 +62,7 @@ fn write_fours(p: Profile, t: &[u64], k: usize, input: &[u8], out: &mut [u8]) ->
         let c = d - one;
         let b = c - one;
         let a = b - one;
-        fours::write_four(
+        crate::fours::write_four(
             p,
             t,
             i,
@@ -83,19 +86,19 @@ fn write(p: Profile, input: &[u8], out: &mut [u8])
     ensures { λ _. ⌜ Encodes p (bytes (now (input .entry))) (bytes (now (out .exit))) ⌝ }
 {
     let n = p.length as usize;
-    let mut t = generator::room();
+    let mut t = divider::generator::room();
     let mut made = p.checks(p.nested) as usize;
-    generator::table(0, made, &mut t);
+    divider::generator::table(0, made, &mut t);
     let left = write_fours(p, &t, made, input, out);
     let mut end = left.symbols;
     let mut i = left.subwords;
     while i > 0 {
         i = i - 1;
         let k = p.checks(i as u8) as usize;
-        generator::prepare(&mut t, made, k);
+        divider::generator::prepare(&mut t, made, k);
         made = k;
         let start = end - (n - k);
-        carry::write_subword(p, &t, i, &input[start..end], out);
+        crate::carry::write_subword(p, &t, i, &input[start..end], out);
         end = start;
     }
 }

@@ -32,7 +32,7 @@ pub fn product_row(c: Gf) -> [u8; 256]
     let mut w: usize = 1;
     while w < 256 {
         level(top, w, &mut row);
-        top = byte::twice(top);
+        top = crate::byte::twice(top);
         w = w + w;
     }
     row
@@ -47,7 +47,7 @@ pub fn value(row: &[u8], word: &[u8]) -> Gf
     let mut i: usize = word.len();
     while i > 0 {
         i -= 1;
-        v = row[byte::wide(v)] ^ word[i];
+        v = row[crate::byte::wide(v)] ^ word[i];
     }
     Gf(v)
 }
@@ -59,7 +59,7 @@ pub fn add_multiple(row: &[u8], from: &[u8], to: &mut [u8])
 {
     let mut i: usize = 0;
     while i < to.len() {
-        to[i] = to[i] ^ row[byte::wide(from[i])];
+        to[i] = to[i] ^ row[crate::byte::wide(from[i])];
         i += 1;
     }
 }

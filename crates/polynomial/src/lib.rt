@@ -1,6 +1,9 @@
 // Polynomials over GF(256) with at most 49 coefficients: sums and scalars.
 // A loop of products runs 16 at a time, and only over coefficients that may differ from zero.
 // The promises are equations of power series: `poly f` is the array f as a polynomial. A table of 48 syndromes is a sequence, `row s`.
+pub mod shift;
+pub mod syndromes;
+
 ghost use Prim.Native.Nat.{_≤_};
 ghost use mathlib.Core.Path.{_≡_};
 ghost use mathlib.Core.Bool.{true};

@@ -3,3 +3,7 @@ pub mod Definition
 pub mod Laws
 pub mod Valid
 pub mod Samples
+-- fetch: FetchDefinition is what the promises speak of.
+pub mod FetchDefinition
+pub mod FetchLaws
+pub mod LayoutDefinition

@@ -1,8 +1,21 @@
 // Profiles: what the seven bytes mean, the refusals with their numbers, and the sizes that follow.
+pub mod fetch;
+pub mod layout;
+pub mod parse;
+
 ghost use Prim.Native.Nat.{_-_, _*_, _<_, _^_};
 ghost use mathlib.Core.Path.{_≡_};
 ghost use Rattle.profile.specs.Definition.{capability as Capability, number-of, answer-number};
 ghost use Rattle.profile.specs.Definition.{checks as Checks, block-size as BlockSize, capability-sum as Sum, data-size as DataSize};
+
+// The most subwords of a block.
+pub const SUBWORDS: usize = 8;
+
+// The most nested words of a block.
+pub const NESTED: usize = 3;
+
+// The most positions of a word.
+pub const POSITIONS: usize = 255;
 
 // Document 01's m strips, v nested sums, n bytes a strip and strengths t0 to t3.
 pub struct Profile {

@@ -4,12 +4,12 @@
 ghost use Prim.Native.Nat.{_<_};
 ghost use mathlib.Core.Path.{_≡_};
 ghost use mathlib.Core.Bool.{false};
-ghost use Rattle.section.specs.Definition.{over, left};
+ghost use Rattle.card.specs.SectionDefinition.{over, left};
 ghost use Rattle.card.specs.Definition.{Kept};
 use card::TABLE;
+use card::section::SECTION;
+use card::section::Section;
 use listing::LINE;
-use section::SECTION;
-use section::Section;
 
 // Room for a section.
 fn room() -> [u8; SECTION] {
@@ -45,8 +45,8 @@ fn main() {
     let mut t = table();
     let mut u = table();
     let mut s = Section::Size;
-    while !section::is_over(s) {
-        let n = section::wanted(s);
+    while !card::section::is_over(s) {
+        let n = card::section::wanted(s);
         let next = turn(s, &mut t, &mut u, &mut bytes[..n]);
         s = next;
     }

@@ -25,14 +25,14 @@ use Rattle.series.specs.Value.{value}
 use Rattle.series.specs.Word.{entry}
 use Rattle.series.specs.Array as Array
 use Rattle.series.specs.Array.{bytes}
-use Rattle.iteration.specs.Shared.{swaps, from-to}
-use Rattle.iteration.specs.Plain as Plain
-use Rattle.iteration.specs.Run.{Factors, plain, scaled, joined, measure, factors}
-use Rattle.iteration.specs.Measure.{measure-below}
-use Rattle.iteration.specs.Ends.{finish, plain-end, scaled-end, scaled-end-Λ, scaled-end-B}
+use Rattle.key_equation.specs.Shared.{swaps, from-to}
+use Rattle.key_equation.specs.Plain as Plain
+use Rattle.key_equation.specs.Run.{Factors, plain, scaled, joined, measure, factors}
+use Rattle.key_equation.specs.Measure.{measure-below}
+use Rattle.key_equation.specs.Ends.{finish, plain-end, scaled-end, scaled-end-Λ, scaled-end-B}
 use Rattle.profile.specs.declared.Parsed.the-variants.{Accepted}
 use Rattle.profile.specs.Definition.{read, profile-of, block-size, data-size}
-use Rattle.reed_solomon.specs.Definition.{root, syndrome}
+use Rattle.code.specs.Word.{root, syndrome}
 use Rattle.code.specs.Definition.{subword, nested}
 use Rattle.code.specs.Encoding.{encoding, encoding-bytes}
 use Rattle.samples.specs.Test.{equal, equal-is, same, same-is, sameℤ, sameℤ-is}

@@ -24,7 +24,7 @@ use Rattle.profile.specs.declared.Parsed.{Parsed}
 use Rattle.profile.specs.declared.Parsed.the-variants.{Accepted, Refused}
 use Rattle.profile.specs.Definition.{checks, room, data-start, profile-of, read}
 use Rattle.profile.specs.Valid.{Valid, profile-read, profile-valid}
-use Rattle.reed_solomon.specs.Definition.{syndrome}
+use Rattle.code.specs.Word.{syndrome}
 use Rattle.code.specs.Definition.{subword, Encodes}
 use Rattle.code.specs.Check.{sums, sums-codeword}
 

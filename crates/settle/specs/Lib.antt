@@ -1,7 +1,13 @@
--- Definition is what the promises speak of; Settle has its laws; Locator and Solve prove what the solver finds; Candidate is what code cites.
-pub mod Definition
-pub mod Locator
-pub mod Settle
-pub mod Solve
-pub mod Candidate
-pub mod Sample
+-- Answer names what `settle` promises; Effect holds what the test's parts promise.
+pub mod Effect
+pub mod Answer
+-- numerator: NumeratorProduct holds what `numerator` goes by.
+pub mod NumeratorProduct
+-- positions: Laws of the loops; what the promise speaks of stands in `settling` and `series`.
+pub mod PositionsTerm
+pub mod PositionsExponent
+pub mod PositionsThird
+-- candidate: CandidateLocated names what `locate` promises; CandidateOdd and CandidateOne hold what it goes by.
+pub mod CandidateOdd
+pub mod CandidateLocated
+pub mod CandidateOne

@@ -1,1 +1,69 @@
-// Theory only: what settles a subword, and that the key-equation solver finds it, stand in specs/.
+// Settling one subword: the pattern that a locator puts forward, by `candidate`, and its test. What the promises speak of stands in settling's
+// specs/Definition.antt, and for the answer in specs/Answer.antt.
+mod candidate;
+mod check;
+mod numerator;
+mod positions;
+
+ghost use Prim.Native.Nat.{_*_, _≤_};
+ghost use mathlib.Core.Path.{_≡_};
+ghost use Rattle.polynomial.specs.Polynomial.{poly, row as Row};
+ghost use Rattle.key_equation.specs.Run.{measure};
+ghost use Rattle.key_equation.specs.Shortest.{length as Length};
+ghost use Rattle.settling.specs.Definition.{settle as Settle};
+ghost use Rattle.settling.specs.Candidate.{Multiple};
+ghost use Rattle.settle.specs.Answer.{answer, Nothing, Sound};
+use field::Gf;
+use polynomial::COEFFICIENTS;
+use polynomial::SYNDROMES;
+
+// The pattern that settles a subword, and how many symbols it changes; or that none was found, and then the pattern is zero.
+pub struct Settled {
+    pub found: bool,
+    pub count: u8,
+    pub pattern: [Gf; 255],
+}
+
+// Nothing was found.
+fn nothing() -> Settled
+    ensures { λ r. ⌜ Nothing r ⌝ }
+{
+    Settled {
+        found: false,
+        count: 0,
+        pattern: [Gf::ZERO; 255],
+    }
+}
+
+// The subword has n symbols; of its syndromes the first 2t count. Whatever the locator and its length are, the pattern that is found explains them.
+// If they are the key-equation solver's after these syndromes, in any of its forms, the answer is what settles the subword.
+pub fn settle(
+    locator: [Gf; COEFFICIENTS],
+    length: usize,
+    row: [Gf; SYNDROMES],
+    n: usize,
+    t: usize,
+) -> Settled
+    requires { ⌜ (n ≤ 255) × (t ≤ 24) ⌝ }
+    ensures sound { λ r. ⌜ Sound t n (Row row) r ⌝ }
+    ensures settled { λ r. ⌜ (Multiple (poly locator) (measure (Row row) (2 * t) .Λ) → length ≡ Length (Row row) (2 * t) → answer n r ≡ Settle t n (Row row)) ⌝ }
+{
+    if t < length {
+        return nothing();
+    }
+    let numerator = crate::numerator::numerator(locator, row, length);
+    let located = crate::candidate::locate(locator, &numerator[..length], length, n);
+    if !located.whole {
+        return nothing();
+    }
+    let pattern = located.pattern;
+    let tested = check::test(pattern, row, n, t);
+    if !tested.explains {
+        return nothing();
+    }
+    Settled {
+        found: true,
+        count: tested.count as u8,
+        pattern: pattern,
+    }
+}

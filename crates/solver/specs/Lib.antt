@@ -1,1 +1,22 @@
 pub mod Solver
+pub mod SwapStep
+pub mod SwapSigned
+pub mod SwapTurns
+-- plain: The view is what the promises speak of; the other proves them.
+pub mod PlainView
+pub mod PlainStep
+-- lookahead: The view is what the promises speak of; the other proves them.
+pub mod LookaheadView
+pub mod LookaheadStep
+-- scaled: The view is what the promises speak of; the other proves them.
+pub mod ScaledView
+pub mod ScaledStep
+-- rounds: RoundsRun has the definitions that the promises speak of, with Rounds; RoundsTurn proves them.
+pub mod Rounds
+pub mod RoundsRun
+pub mod RoundsTurn
+-- continuation: ContinuationDefinition is what the promises speak of; ContinuationState and ContinuationEnd prove them. A caller cites ContinuationEnd for the length, and ContinuationStages for the stages of a subword.
+pub mod ContinuationDefinition
+pub mod ContinuationState
+pub mod ContinuationEnd
+pub mod ContinuationStages

@@ -17,15 +17,15 @@ use lib.ListN.{length}
 use Rattle.field.specs.Field.{F}
 use Rattle.series.specs.Series.{Series}
 use Rattle.series.specs.Degree.{below-cut-eq}
-use Rattle.iteration.specs.Run as Run
-use Rattle.iteration.specs.Agreement.{fits}
-use Rattle.plain.specs.declared.Plain.{Plain as PlainSolver}
-use Rattle.lookahead.specs.declared.Lookahead.{Lookahead as LookaheadSolver}
-use Rattle.scaled.specs.declared.Scaled.{Scaled as ScaledSolver}
-use Rattle.plain.specs.View.{plain, clip-plain}
-use Rattle.lookahead.specs.View.{lookahead, clip-lookahead}
-use Rattle.scaled.specs.View.{scaled, clip-scaled}
-unfoldable pub use Rattle.swap.specs.Turns.{turns}
+use Rattle.key_equation.specs.Run as Run
+use Rattle.key_equation.specs.Agreement.{fits}
+use Rattle.solver.specs.declared.plain.Plain.{Plain as PlainSolver}
+use Rattle.solver.specs.declared.lookahead.Lookahead.{Lookahead as LookaheadSolver}
+use Rattle.solver.specs.declared.scaled.Scaled.{Scaled as ScaledSolver}
+use Rattle.solver.specs.PlainView.{plain, clip-plain}
+use Rattle.solver.specs.LookaheadView.{lookahead, clip-lookahead}
+use Rattle.solver.specs.ScaledView.{scaled, clip-scaled}
+unfoldable pub use Rattle.solver.specs.SwapTurns.{turns}
 use Rattle.solver.specs.declared.Form.{Form}
 use Rattle.solver.specs.declared.Form.the-variants.{Plain, Lookahead, Scaled}
 use Rattle.solver.specs.declared.Solver.{Solver}

@@ -1,13 +1,20 @@
 // A key-equation solver in a named form.
+pub mod continuation;
+pub mod lookahead;
+pub mod plain;
+pub mod rounds;
+pub mod scaled;
+mod swap;
+
 ghost use Prim.Native.Nat.{ℕ, _+_, _-_};
 ghost use mathlib.Core.Path.{_≡_};
 ghost use Rattle.polynomial.specs.Polynomial.{row};
-ghost use Rattle.iteration.specs.Length.{k-of};
+ghost use Rattle.key_equation.specs.Length.{k-of};
 ghost use Rattle.solver.specs.Solver.{form-of, Is, clip, turn, turns, k-in};
+use crate::lookahead::Lookahead;
+use crate::plain::Plain;
+use crate::scaled::Scaled;
 use field::Gf;
-use lookahead::Lookahead;
-use plain::Plain;
-use scaled::Scaled;
 
 // Document 01's plain, ahead and scaled.
 pub enum Form {
@@ -139,14 +146,14 @@ impl Solver {
         let l = self.lookahead;
         let c = self.scaled;
         match form {
-            Form::Plain => swap::swaps(p.discrepancy(r, s), p.length, r),
+            Form::Plain => crate::swap::swaps(p.discrepancy(r, s), p.length, r),
             Form::Lookahead => {
                 let delta = l.delta;
-                swap::swaps(delta[0], l.length, r)
+                crate::swap::swaps(delta[0], l.length, r)
             }
             Form::Scaled => {
                 let delta = c.delta;
-                swap::swaps(delta[0], c.length, r)
+                crate::swap::swaps(delta[0], c.length, r)
             }
         }
     }
@@ -170,6 +177,6 @@ impl Solver {
     pub fn k(self, r: u8) -> i32
         ensures { λ k. ⌜ ((f : Form) (m : form-of f .State) → Is f r self m → k ≡ k-in f m) ⌝ }
     {
-        swap::k(self.length(), r)
+        crate::swap::k(self.length(), r)
     }
 }

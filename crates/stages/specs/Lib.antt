@@ -3,3 +3,9 @@ pub mod View
 pub mod Lines
 pub mod Stage
 pub mod Walk
+-- attempt: AttemptDefinition is what `attempt` promises of. A caller cites AttemptReady for the way from stage to stage.
+pub mod AttemptDefinition
+pub mod AttemptReady
+-- subword: SubwordDefinition is what the promises speak of; SubwordTurn proves them.
+pub mod SubwordDefinition
+pub mod SubwordTurn

@@ -15,13 +15,13 @@ use lib.Seq.{getD-set-same, getD-set-other}
 use Rattle.solver.specs.declared.Form.{Form}
 use Rattle.solver.specs.declared.Solver.{Solver}
 use Rattle.solver.specs.Solver.{form-of, Is}
-use Rattle.continuation.specs.Definition.{Ended, ended-start}
-use Rattle.staged.specs.Definition as staged
-use Rattle.staged.specs.Definition.{put}
-use Rattle.staged.specs.Stage.{put-same, put-other}
-use Rattle.turn.specs.declared.Verdict.the-variants.{Clean}
-use Rattle.turn.specs.declared.Line.{Line}
-use Rattle.turn.specs.Definition.{verdict-of}
+use Rattle.solver.specs.ContinuationDefinition.{Ended, ended-start}
+use Rattle.staged_decoding.specs.Definition as staged
+use Rattle.staged_decoding.specs.Definition.{put}
+use Rattle.staged_decoding.specs.Stage.{put-same, put-other}
+use Rattle.stages.specs.declared.subword.Verdict.the-variants.{Clean}
+use Rattle.stages.specs.declared.subword.Line.{Line}
+use Rattle.stages.specs.SubwordDefinition.{verdict-of}
 use Rattle.stages.specs.View.{says, Has, shown, Started}
 
 -- ---- places of a list

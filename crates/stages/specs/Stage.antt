@@ -22,17 +22,17 @@ use Rattle.series.specs.Array.{bytes}
 use Rattle.polynomial.specs.Polynomial.{row}
 use Rattle.profile.specs.declared.Profile.{Profile}
 use Rattle.profile.specs.Definition.{capability}
-use Rattle.code.specs.Check.{table}
+use Rattle.block.specs.Table.{table}
 use Rattle.solver.specs.declared.Form.{Form}
-use Rattle.settle.specs.Definition.{settle}
-use Rattle.continuation.specs.Definition.{Ended}
-use Rattle.staged.specs.Definition as staged
-use Rattle.staged.specs.Definition.{Progress, each, step, stage}
-use Rattle.staged.specs.Stage.{progress-equal, each-none, each-more, put-same, put-other, found-open, found-settled, step-none, step-some}
-use Rattle.attempt.specs.Definition.{Ready}
-use Rattle.turn.specs.declared.Line.{Line}
-use Rattle.turn.specs.declared.Turned.{Turned}
-use Rattle.turn.specs.Definition.{verdict-of, Took, Stayed}
+use Rattle.settling.specs.Definition.{settle}
+use Rattle.solver.specs.ContinuationDefinition.{Ended}
+use Rattle.staged_decoding.specs.Definition as staged
+use Rattle.staged_decoding.specs.Definition.{Progress, each, step, stage}
+use Rattle.staged_decoding.specs.Stage.{progress-equal, each-none, each-more, put-same, put-other, found-open, found-settled, step-none, step-some}
+use Rattle.stages.specs.AttemptDefinition.{Ready}
+use Rattle.stages.specs.declared.subword.Line.{Line}
+use Rattle.stages.specs.declared.subword.Turned.{Turned}
+use Rattle.stages.specs.SubwordDefinition.{verdict-of, Took, Stayed}
 use Rattle.stages.specs.declared.Staged.{Staged}
 use Rattle.stages.specs.View.{says, Has, shown, view, so-far, Kept, Before, Came}
 use Rattle.stages.specs.Lines.{any-default, has, has-same, has-other, says-at, says-other, shown-set, put-stay}

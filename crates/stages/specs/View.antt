@@ -1,4 +1,4 @@
--- How the code's values show staged decoding (Definition of staged).
+-- How the code's values show staged decoding (Definition of staged_decoding).
 --
 --   says lines i              what line i says; clean where there is no such line
 --   view b pending lines t    the progress that a block, flags, lines and a table of syndromes show
@@ -25,15 +25,15 @@ use Rattle.series.specs.Degree.{below}
 use Rattle.series.specs.Array.{bytes}
 use Rattle.profile.specs.declared.Profile.{Profile}
 use Rattle.profile.specs.Definition.{capability}
-use Rattle.code.specs.Check.{table}
+use Rattle.block.specs.Table.{table}
 use Rattle.solver.specs.declared.Form.{Form}
-use Rattle.continuation.specs.Definition.{Ended}
-use Rattle.staged.specs.Definition as staged
-use Rattle.staged.specs.Definition.{Progress, count, line-at, line-rounds, stage, round, start, stages, settled, stopped}
-use Rattle.attempt.specs.Definition.{earlier}
-use Rattle.lagrange.specs.Definition.{flag}
-use Rattle.turn.specs.declared.Line.{Line}
-use Rattle.turn.specs.Definition.{verdict-of}
+use Rattle.solver.specs.ContinuationDefinition.{Ended}
+use Rattle.staged_decoding.specs.Definition as staged
+use Rattle.staged_decoding.specs.Definition.{Progress, count, line-at, line-rounds, stage, round, start, stages, settled, stopped}
+use Rattle.stages.specs.AttemptDefinition.{earlier}
+use Rattle.extend.specs.LagrangeDefinition.{flag}
+use Rattle.stages.specs.declared.subword.Line.{Line}
+use Rattle.stages.specs.SubwordDefinition.{verdict-of}
 use Rattle.stages.specs.declared.Staged.{Staged}
 use Rattle.stages.specs.declared.Ending.{Ending}
 

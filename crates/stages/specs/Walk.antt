@@ -26,19 +26,20 @@ use Rattle.series.specs.Array.{bytes}
 use Rattle.profile.specs.declared.Profile.{Profile}
 use Rattle.profile.specs.Definition.{capability}
 use Rattle.profile.specs.Valid.{Valid}
-use Rattle.code.specs.Check.{table, received}
+use Rattle.block.specs.Table.{table}
+use Rattle.code.specs.Check.{received}
 use Rattle.solver.specs.declared.Form.{Form}
-use Rattle.continuation.specs.Definition.{Ended}
-use Rattle.staged.specs.Definition as staged
-use Rattle.staged.specs.Definition.{Progress, open?, unsettled-line, unsettled, line-at, line-rounds, rounds-of, extend, start, stage, round, stages, settled}
-use Rattle.staged.specs.Count.{count-cong, count-none}
-use Rattle.staged.specs.Stage.{progress-equal}
-use Rattle.staged.specs.Round.{extend-open, extend-settled, extend-low, window-high}
-use Rattle.staged.specs.Rounds.{rounds-cong}
-use Rattle.staged.specs.Course.{stages-over, stages-stop, stages-on}
-use Rattle.lagrange.specs.Definition.{flag}
-use Rattle.extension.specs.Definition.{Seen}
-use Rattle.turn.specs.declared.Line.{Line}
+use Rattle.solver.specs.ContinuationDefinition.{Ended}
+use Rattle.staged_decoding.specs.Definition as staged
+use Rattle.staged_decoding.specs.Definition.{Progress, open?, unsettled-line, unsettled, line-at, line-rounds, rounds-of, extend, start, stage, round, stages, settled}
+use Rattle.staged_decoding.specs.Count.{count-cong, count-none}
+use Rattle.staged_decoding.specs.Stage.{progress-equal}
+use Rattle.staged_decoding.specs.Round.{extend-open, extend-settled, extend-low, window-high}
+use Rattle.staged_decoding.specs.Rounds.{rounds-cong}
+use Rattle.staged_decoding.specs.Course.{stages-over, stages-stop, stages-on}
+use Rattle.extend.specs.LagrangeDefinition.{flag}
+use Rattle.extend.specs.Definition.{Seen}
+use Rattle.stages.specs.declared.subword.Line.{Line}
 use Rattle.stages.specs.declared.Staged.{Staged}
 use Rattle.stages.specs.View.{says, Has, shown, view, waiting, so-far, Kept, Before, Came, Started, Shows, Reached}
 use Rattle.stages.specs.Lines.{any-default}

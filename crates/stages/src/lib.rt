@@ -1,5 +1,8 @@
-// Staged decoding of a block that is lent: subwords are corrected in place, stage after stage. What the promises speak of stands in staged's
-// specs/Definition.antt; how the values here show it, in specs/View.antt.
+// Staged decoding of a block that is lent: subwords are corrected in place, stage after stage. What the promises speak of stands in
+// staged_decoding's specs/Definition.antt; how the values here show it, in specs/View.antt.
+mod attempt;
+pub mod subword;
+
 ghost use Prim.Native.Nat.{_-_, _*_, _≤_, _<_};
 ghost use mathlib.Core.Path.{_≡_};
 ghost use mathlib.Core.Bool.{_&&_};
@@ -7,17 +10,19 @@ ghost use lib.Dec.{leb};
 ghost use lib.ListN.{length};
 ghost use Rattle.series.specs.Array.{bytes};
 ghost use Rattle.profile.specs.Valid.{Valid};
-ghost use Rattle.code.specs.Check.{Fits, table, received};
-ghost use Rattle.codeword.specs.Definition.{Further};
+ghost use Rattle.block.specs.Parts.{Fits};
+ghost use Rattle.block.specs.Table.{table};
+ghost use Rattle.code.specs.Check.{received};
+ghost use Rattle.block.specs.CodewordDefinition.{Further};
 ghost use Rattle.stages.specs.View.{view, waiting, Before, Came, Started, Extended, Reached};
-use code::SUBWORDS;
+use crate::subword::Line;
+use crate::subword::Verdict;
 use field::Gf;
 use polynomial::SYNDROMES;
 use profile::Profile;
+use profile::SUBWORDS;
 use solver::Form;
 use solver::Solver;
-use turn::Line;
-use turn::Verdict;
 
 // All subwords after a stage.
 struct Staged {
@@ -51,7 +56,7 @@ fn stage(
     let mut done = lines;
     let mut i: usize = 0;
     while i < m {
-        let t = turn::turn(p, r, i, flags[i], done[i], table[i], block);
+        let t = crate::subword::turn(p, r, i, flags[i], done[i], table[i], block);
         flags[i] = t.pending;
         let l = t.line;
         done[i] = l;
@@ -77,7 +82,7 @@ fn round(
 {
     let from = 2 * p.capability(r) as usize;
     let to = 2 * p.capability(r + 1) as usize;
-    extension::extend(p, u, pending, block, from, to, table)
+    extend::extend(p, u, pending, block, from, to, table)
 }
 
 // Whether a round follows stage r: some subwords are pending, and not too many.
@@ -85,7 +90,7 @@ fn follows(p: Profile, r: u8, pending: [bool; SUBWORDS]) -> bool
     requires { ⌜ Valid p × (r ≤ p .nested) ⌝ }
     ensures { λ b. ⌜ b ≡ (leb 1 (waiting p pending) && leb (waiting p pending) (p .nested - r)) ⌝ }
 {
-    let b = lagrange::unsettled(p, pending);
+    let b = extend::lagrange::unsettled(p, pending);
     if b == 0 {
         return false;
     }
@@ -130,7 +135,7 @@ pub fn run(
         lines = s.lines;
     }
     Ending {
-        settled: lagrange::unsettled(p, pending) == 0,
+        settled: extend::lagrange::unsettled(p, pending) == 0,
         stage: r,
         lines: lines,
     }

@@ -1,6 +1,6 @@
 -- Nothing is missing, or refused.
 use mathlib.Core.Path.{sym, _∙_}
-use Rattle.section.specs.Laws.{takes-silent}
+use Rattle.card.specs.SectionLaws.{takes-silent}
 use borrow.Author.Needs.{needs}
 use Rattle.card.proofs.cut.Statement.{statement}
 use Rattle.card.proofs.cut.Tie as tie

@@ -3,10 +3,10 @@ use mathlib.Core.Path.{sym, ap, ap₂, _∙_}
 use native.Mathlib.Omega.{arith}
 use lib.ListN.{take}
 use lib.Seq.{length-take-le}
-use Rattle.section.specs.Definition.{good, known, size}
-use Rattle.section.specs.Laws.{takes-as}
-use Rattle.printed.specs.Turn.{whole, cut}
-use Rattle.printed.specs.Whole.{known-good, step-cut, step-whole, turns}
+use Rattle.card.specs.SectionDefinition.{good, known, size}
+use Rattle.card.specs.SectionLaws.{takes-as}
+use Rattle.card.specs.PrintedTurn.{whole, cut}
+use Rattle.card.specs.PrintedWhole.{known-good, step-cut, step-whole, turns}
 use Rattle.card.specs.Laws.{kept-as, made-next, cut-kept, known-kept}
 use borrow.Author.Needs.{needs}
 use Rattle.card.proofs.judge_kept.Statement.{statement}

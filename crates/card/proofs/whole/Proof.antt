@@ -3,9 +3,9 @@ use mathlib.Core.Path.{sym, ap, _∙_}
 use mathlib.Core.Bool.{and-eq-true-iff}
 use native.Mathlib.Omega.{arith}
 use borrow.Author.Tests.{ltb-true, eq-eqb}
-use Rattle.section.specs.Definition.{good, size}
-use Rattle.section.specs.Laws.{takes-silent, takes-as}
-use Rattle.printed.specs.Turn.{whole}
+use Rattle.card.specs.SectionDefinition.{good, size}
+use Rattle.card.specs.SectionLaws.{takes-silent, takes-as}
+use Rattle.card.specs.PrintedTurn.{whole}
 use Rattle.card.specs.Laws.{made-as, kept-as}
 use borrow.Author.Needs.{needs}
 use Rattle.card.proofs.whole.Statement.{statement}

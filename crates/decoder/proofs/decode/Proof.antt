@@ -2,7 +2,7 @@
 use mathlib.Core.Path.{sym, ap, _∙_}
 use native.Mathlib.Omega.{arith}
 use Rattle.decoder.specs.Definition.{judged}
-use Rattle.reader.specs.Laws.{gives-refused, gives-as}
+use Rattle.decoder.specs.PreparedLaws.{gives-refused, gives-as}
 use Rattle.decoder.specs.Laws.{passed}
 use borrow.Author.Needs.{needs}
 use Rattle.decoder.proofs.decode.Statement.{statement}

@@ -7,9 +7,9 @@ use lib.Seq.{length-take-le}
 use Rattle.series.specs.Array.{bytes}
 use Rattle.profile.specs.Definition.{data-start}
 use Rattle.profile.specs.Valid.{checks-some, checks-most}
-use Rattle.code.specs.Check.{Fits}
+use Rattle.block.specs.Parts.{Fits}
 use Rattle.code.specs.Right.{all-right}
-use Rattle.generator.specs.Table.{Made, table-for}
+use Rattle.divider.specs.GeneratorTable.{Made, table-for}
 use Rattle.encoder.specs.Write.{Upper, turn, part-data, upper-next}
 use borrow.Author.Needs.{needs}
 use Rattle.encoder.proofs.write.Statement.{statement}

@@ -6,8 +6,8 @@ use lib.ListN.{length}
 use Rattle.series.specs.Array.{bytes}
 use Rattle.profile.specs.Definition.{data-start}
 use Rattle.profile.specs.Valid.{checks-room, data-size-is}
-use Rattle.code.specs.Check.{Fits}
-use Rattle.generator.specs.Table.{table-for}
+use Rattle.block.specs.Parts.{Fits}
+use Rattle.divider.specs.GeneratorTable.{table-for}
 use Rattle.encoder.specs.Write.{Upper, quarters, checks-above, quarter-length, quarter-data, upper-four}
 use borrow.Author.Needs.{needs}
 use Rattle.encoder.proofs.write_fours.Statement.{statement}

@@ -4,7 +4,7 @@ use native.Mathlib.Omega.{arith}
 use lib.ListN.{length}
 use lib.Seq.{length-take-le, length-front}
 use Rattle.profile.specs.Laws.{unless}
-use Rattle.section.specs.Definition.{left}
+use Rattle.card.specs.SectionDefinition.{left}
 use Rattle.card.specs.Definition.{Kept}
 use borrow.Author.Needs.{needs}
 use Rattle.read_card.proofs.main.Statement.{statement}

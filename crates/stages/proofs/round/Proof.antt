@@ -5,7 +5,7 @@ use native.Mathlib.Numerals.{add-one}
 use native.Mathlib.Omega.{arith}
 use Rattle.profile.specs.Definition.{capability}
 use Rattle.profile.specs.Valid.{capability-mono, checks-is}
-use Rattle.staged.specs.Definition.{extend}
+use Rattle.staged_decoding.specs.Definition.{extend}
 use Rattle.stages.specs.Walk.{extended}
 use borrow.Author.Needs.{needs}
 use Rattle.stages.proofs.round.Statement.{statement}

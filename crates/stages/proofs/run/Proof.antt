@@ -6,7 +6,7 @@ use lib.Dec.{eqb}
 use lib.ListN.{length}
 use Rattle.series.specs.Series.{Series}
 use Rattle.series.specs.Array.{bytes}
-use Rattle.code.specs.Check.{Fits}
+use Rattle.block.specs.Parts.{Fits}
 use Rattle.solver.specs.declared.Form.{Form}
 use Rattle.stages.specs.View.{Reached}
 use Rattle.stages.specs.Walk.{At, before-first, at-first, follows-yes, at-next, reached}

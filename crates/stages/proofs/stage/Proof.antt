@@ -4,7 +4,7 @@ use mathlib.Core.Path.{_≡_}
 use native.Mathlib.Omega.{arith}
 use lib.ListN.{length, length-set}
 use Rattle.solver.specs.declared.Form.{Form}
-use Rattle.code.specs.Check.{Fits}
+use Rattle.block.specs.Parts.{Fits}
 use Rattle.stages.specs.View.{view, Before}
 use Rattle.stages.specs.Stage.{Mid, mid-start, mid-next, mid-end}
 use borrow.Author.Needs.{needs}

@@ -1,8 +1,8 @@
 -- The form that it has gives its length.
 use mathlib.Core.Path.{refl}
-use Rattle.plain.specs.View.{plain}
-use Rattle.lookahead.specs.View.{lookahead}
-use Rattle.scaled.specs.View.{scaled}
+use Rattle.solver.specs.PlainView.{plain}
+use Rattle.solver.specs.LookaheadView.{lookahead}
+use Rattle.solver.specs.ScaledView.{scaled}
 use Rattle.solver.specs.Solver.{for-form}
 use borrow.Author.Needs.{needs}
 use Rattle.solver.proofs.Solver.length.Statement.{statement}

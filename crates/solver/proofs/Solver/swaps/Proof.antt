@@ -1,12 +1,12 @@
 -- The form that it has decides.
 use mathlib.Core.Path.{sym, ap, _∙_}
 use native.Mathlib.Omega.{arith}
-use Rattle.iteration.specs.Shared.{swaps}
-use Rattle.iteration.specs.Length.{k-of}
+use Rattle.key_equation.specs.Shared.{swaps}
+use Rattle.key_equation.specs.Length.{k-of}
 use Rattle.polynomial.specs.Polynomial.{poly-at}
-use Rattle.plain.specs.View.{plain}
-use Rattle.lookahead.specs.View.{lookahead}
-use Rattle.scaled.specs.View.{scaled}
+use Rattle.solver.specs.PlainView.{plain}
+use Rattle.solver.specs.LookaheadView.{lookahead}
+use Rattle.solver.specs.ScaledView.{scaled}
 use Rattle.solver.specs.Solver.{for-form}
 use borrow.Author.Needs.{needs}
 use Rattle.solver.proofs.Solver.swaps.Statement.{statement}

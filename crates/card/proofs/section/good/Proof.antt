@@ -1,0 +1,68 @@
+-- By the section.
+use mathlib.Core.Path.{refl}
+use native.Mathlib.Omega.{arith}
+use Rattle.card.specs.SectionLaws.{judges-as}
+use borrow.Author.Needs.{needs}
+use Rattle.card.proofs.section.good.Statement.{statement}
+use Rattle.card.proofs.section.good.Tie as tie
+
+enum-told : tie.Need-enum-told
+enum-told c = search needs
+
+enum-told-2 : tie.Need-enum-told-2
+enum-told-2 c = search needs
+
+enum-known-s : tie.Need-enum-known-s
+enum-known-s c = search needs
+
+accepted-requires : tie.Need-accepted-requires
+accepted-requires c κs = search needs
+
+enum-known-s-2 : tie.Need-enum-known-s-2
+enum-known-s-2 c = search needs
+
+numbered-requires : tie.Need-numbered-requires
+numbered-requires c κs = search needs
+
+enum-told-3 : tie.Need-enum-told-3
+enum-told-3 c = search needs
+
+enum-told-4 : tie.Need-enum-told-4
+enum-told-4 c = search needs
+
+returns : tie.Need-returns
+returns c = judges-as (c .enum-told .given .1) (refl, λ _. omega arith)
+
+returns-2 : tie.Need-returns-2
+returns-2 c = judges-as (c .enum-told2 .given .1) (refl, λ _. omega arith)
+
+returns-3 : tie.Need-returns-3
+returns-3 c = judges-as (c .before .before .s .given .1) (c .accepted .ensures .0, λ _. omega arith)
+
+returns-4 : tie.Need-returns-4
+returns-4 c = judges-as (c .before .before .s2 .given .1) (c .numbered .ensures)
+
+returns-5 : tie.Need-returns-5
+returns-5 c = judges-as (c .enum-told3 .given .1) (refl, λ _. omega arith)
+
+returns-6 : tie.Need-returns-6
+returns-6 c = judges-as (c .enum-told4 .given .1) (refl, λ _. omega arith)
+
+pub good-spec : {M : Type 1} → statement M
+good-spec =
+    tie.close
+    (tie.spec
+    enum-told
+    enum-told-2
+    enum-known-s
+    accepted-requires
+    enum-known-s-2
+    numbered-requires
+    enum-told-3
+    enum-told-4
+    returns
+    returns-2
+    returns-3
+    returns-4
+    returns-5
+    returns-6)

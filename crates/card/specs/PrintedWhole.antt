@@ -1,0 +1,70 @@
+-- Turn after turn, the list of the card is printed.
+--
+--   Run s c o    turns that begin where the section s comes next, with the rest c of a card, print the text o: each is given as many bytes as are wanted, or what
+--                is left of the card
+--
+-- Proved: a turn that takes the step of its section prints what it has to (turns); runs print what is to be printed (run-says), so from the start of a card they
+-- print its list (list-printed). How short the reads were that brought the bytes of a section does not enter.
+use Prim.Native.Nat.{ℕ, _≤_, _<_}
+use mathlib.Core.Path.{_≡_, refl, sym, ap, ap₂, _∙_}
+use mathlib.Core.Bool.{Bool, true, false, cond}
+use mathlib.Core.List.{List, [], _++_}
+use native.Mathlib.Omega.{arith}
+use borrow.Author.Tests.{lt-ltb, le-ltb}
+use lib.ListN.{length, getD, take, drop, length-append}
+use lib.Seq.{take-at}
+use Rattle.card.specs.declared.section.Section.{Section}
+use Rattle.card.specs.declared.section.Section.the-variants.{Size, Over}
+use Rattle.card.specs.declared.section.Turn.{Turn}
+use Rattle.card.specs.SectionDefinition.{good, known, size, wanted, Takes}
+use Rattle.card.specs.PrintedDefinition.{printed}
+use Rattle.card.specs.PrintedTurn.{whole, cut, step, after, rest, Turns}
+use Rattle.card.specs.PrintedFollows.{follows}
+use Rattle.card.specs.PrintedFalls.{step-falls}
+
+pub known-good : (s : Section) → good (known s) ≡ true
+known-good s = go (good s) refl
+  where
+    go : (b : Bool) → good s ≡ b → good (cond b s Over) ≡ true
+    go true h = h
+    go false h = refl
+
+-- the two ways of a step
+pub step-cut : (s : Section) (y : List ℕ) → length y < size s → cut s ≡ step s y
+step-cut s y h = sym (ap (λ b. cond b (cut s) (whole s (take (size s) y))) (lt-ltb (length y) (size s) h))
+
+pub step-whole : (s : Section) (y : List ℕ) → size s ≤ length y → whole s (take (size s) y) ≡ step s y
+step-whole s y h = sym (ap (λ b. cond b (cut s) (whole s (take (size s) y))) (le-ltb (length y) (size s) h))
+
+good-known : (s : Section) → good s ≡ true → known s ≡ s
+good-known s h = ap (λ b. cond b s Over) h
+
+module _ (s : Section) (y l m : List ℕ) (t : Turn) (h : Takes (step (known s) y) l t m) where
+  taken : take (t .size) m ≡ step (known s) y .text
+  taken = ap (take (t .size)) (h .line .says) ∙ take-at (step (known s) y .text) (drop (t .size) l) (t .size) (sym (h .line .size))
+
+  inside : t .size ≤ length m
+  inside = omega (arith, h .line .size, ap length (h .line .says), length-append (step (known s) y .text) (drop (t .size) l))
+
+  pub turns : ((j : ℕ) → getD y j 0 ≤ 255) → Turns s y l t m
+  turns small = record {
+    takes = h;
+    size = inside;
+    falls = λ o. rw (h .next) (step-falls s y small o);
+    says = λ c e.
+        let x = follows (known s) y c (known-good s) e in
+        let next : known (t .next) ≡ step (known s) y .next = ap known (h .next) ∙ good-known (step (known s) y .next) (x .good) in
+        x .says ∙ ap₂ _++_ (sym taken) (ap (λ n. after n (drop (wanted s) c)) (sym next));
+  }
+
+pub data Run : Section → List ℕ → List ℕ → Type 0 where
+  over : (c : List ℕ) → Run Over c []
+  turn : (s : Section) (c o l : List ℕ) (t : Turn) (m : List ℕ) → Turns s (take (wanted s) c) l t m → Run (t .next) (drop (wanted s) c) o
+      → Run s c (take (t .size) m ++ o)
+
+pub run-says : (s : Section) (c o : List ℕ) → Run s c o → o ≡ rest s c
+run-says _ _ _ (over c) = refl
+run-says _ _ _ (turn s c p l t m h r) = ap (λ (u : List ℕ). take (t .size) m ++ u) (run-says (t .next) (drop (wanted s) c) p r) ∙ sym (h .says c refl)
+
+pub list-printed : (c o : List ℕ) → Run Size c o → o ≡ printed c
+list-printed c o r = run-says Size c o r

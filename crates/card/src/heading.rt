@@ -1,0 +1,60 @@
+// The sections before the blocks: how many bytes the profile has, the profile, how many blocks there are; and the line of a card that is refused.
+// What the promises speak of stands in specs/HeadingDefinition.antt.
+ghost use Prim.Native.Nat.{_+_, _*_};
+ghost use Rattle.profile.specs.Definition.{profile-of};
+ghost use Rattle.card.specs.SectionDefinition.{refusal, Takes};
+ghost use Rattle.card.specs.HeadingDefinition.{size-step, profile-step, count-step};
+use crate::section::Section;
+use crate::section::Turn;
+use listing::LINE;
+use profile::Parsed;
+use profile::Profile;
+use profile::Refusal;
+
+// A card is refused: its last line.
+pub fn refuse(q: u8, line: &mut [u8; LINE]) -> Turn
+    ensures { λ t. ⌜ Takes (refusal q) (now (line .entry)) t (now (line .exit)) ⌝ }
+{
+    let size = listing::card(q, line);
+    Turn {
+        next: Section::Over,
+        size: size,
+    }
+}
+
+// A profile has seven bytes.
+pub fn judge_size(n: u8, line: &mut [u8; LINE]) -> Turn
+    ensures { λ t. ⌜ Takes (size-step n) (now (line .entry)) t (now (line .exit)) ⌝ }
+{
+    if n != 7 {
+        return refuse(profile::number(Refusal::ProfileSize), line);
+    }
+    Turn {
+        next: Section::Bytes,
+        size: 0,
+    }
+}
+
+pub fn judge_bytes(bytes: &[u8], line: &mut [u8; LINE]) -> Turn
+    ensures { λ t. ⌜ Takes (profile-step (profile-of (now (bytes .entry)))) (now (line .entry)) t (now (line .exit)) ⌝ }
+{
+    match profile::parse::parse(bytes) {
+        Parsed::Accepted(p) => Turn {
+            next: Section::Count(p),
+            size: 0,
+        },
+        Parsed::Refused(q) => refuse(profile::number(q), line),
+    }
+}
+
+// The high byte of the number of blocks comes first.
+pub fn judge_count(p: Profile, high: u8, low: u8, line: &mut [u8; LINE]) -> Turn
+    ensures { λ t. ⌜ Takes (count-step p (256 * high + low)) (now (line .entry)) t (now (line .exit)) ⌝ }
+{
+    let k = 256 * (high as u16) + low as u16;
+    let size = listing::blocks(k, line);
+    Turn {
+        next: crate::section::block_or_end(p, 0, k),
+        size: size,
+    }
+}

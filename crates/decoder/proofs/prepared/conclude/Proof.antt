@@ -1,0 +1,74 @@
+-- Refused twice, or read.
+use mathlib.Core.Path.{refl, sym, _∙_}
+use native.Mathlib.Omega.{arith}
+use Rattle.profile.specs.Laws.{unless, meets}
+use Rattle.decoder.specs.PreparedLaws.{gives-unsettled, gives-foreign, gives-read}
+use borrow.Author.Needs.{needs}
+use Rattle.decoder.proofs.prepared.conclude.Statement.{statement}
+use Rattle.decoder.proofs.prepared.conclude.Tie as tie
+
+refuse-requires : tie.Need-refuse-requires
+refuse-requires c κs = search needs
+
+same-length : tie.Need-same-length
+same-length c = search needs
+
+returns : tie.Need-returns
+returns c =
+    let given = c .before .before .before .before .before .before .before .before .before in
+    let refuse = c .before .before .refuse in
+    λ y r. gives-unsettled (given .args .p) (given .args .form) y _ (given .args .e) r _ _ (refuse .result)
+    (unless _ (c .before .before .before .before .if1 .taken)) (refuse .ensures .0) (refuse .ensures .1 .0) (refuse .ensures .1 .1)
+
+is-codeword-requires : tie.Need-is-codeword-requires
+is-codeword-requires c κs = let given = c .before .before .before .before .before in (given .pre .0, given .pre .3 (meets _ (c .if1 .left)), given .pre .2)
+
+refuse-requires-2 : tie.Need-refuse-requires-2
+refuse-requires-2 c κs = search needs
+
+same-length-2 : tie.Need-same-length-2
+same-length-2 c = search needs
+
+returns-2 : tie.Need-returns-2
+returns-2 c =
+    let given = c .before .before .before .before .before .before .before .before .before .before .before in
+    let refuse = c .before .before .refuse2 in
+    let wrong = sym (c .before .before .before .before .before .is-codeword .ensures) ∙ unless _ (c .before .before .before .before .if2 .taken) in
+    λ y r. gives-foreign (given .args .p) (given .args .form) y _ (given .args .e) r _ _ (refuse .result)
+    (meets _ (c .before .before .before .before .before .before .if1 .left)) wrong (refuse .ensures .0) (refuse .ensures .1 .0) (refuse .ensures .1 .1)
+
+copy-requires : tie.Need-copy-requires
+copy-requires c κs = c .before .before .before .before .before .before .before .before .pre .1
+
+cast-changed : tie.Need-cast-changed
+cast-changed c = search needs
+
+changed-requires : tie.Need-changed-requires
+changed-requires c κs = c .before .before .before .before .before .before .before .before .before .before .before .before .before .pre .0 .valid .subwords .1
+
+same-length-3 : tie.Need-same-length-3
+same-length-3 c = search needs
+
+returns-3 : tie.Need-returns-3
+returns-3 c =
+    let given = c .before .before .before .before .before .before .before .before .before .before .before .before .before .before in
+    let right = sym (c .before .before .before .before .before .before .before .before .is-codeword .ensures) ∙ meets _ (c .before .before .before .before .before .before .before .if2 .left) in
+    λ y r. gives-read (given .args .p) (given .args .form) y (given .args .block .now) _ _ (given .args .e) _ (c .before .before .before .before .before .copy .ensures) (given .pre .0 .size)
+    (λ i. omega (arith, c .before .before .before .before .before .before .before .before .before .before .before .before .shared-slice-known2 .given i)) r (meets _ (c .before .before .before .before .before .before .before .before .before .if1 .left)) right refl refl (c .changed .ensures) refl
+
+pub conclude-spec : {M : Type 1} → statement M
+conclude-spec =
+    tie.close
+    (tie.spec
+    refuse-requires
+    same-length
+    returns
+    is-codeword-requires
+    refuse-requires-2
+    same-length-2
+    returns-2
+    copy-requires
+    cast-changed
+    changed-requires
+    same-length-3
+    returns-3)

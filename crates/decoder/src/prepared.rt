@@ -1,0 +1,171 @@
+// Reading a block of an accepted profile: staged decoding, the block with its report, or a refusal. What the promises speak of stands in specs/PreparedDefinition.antt.
+ghost use Prim.Native.Nat.{_*_, _≤_};
+ghost use mathlib.Core.Path.{_≡_};
+ghost use mathlib.Core.Bool.{true};
+ghost use lib.ListN.{length};
+ghost use Rattle.series.specs.Series.{Series};
+ghost use Rattle.series.specs.Array.{bytes};
+ghost use Rattle.block.specs.Parts.{Fits};
+ghost use Rattle.code.specs.Check.{Subwords, received};
+ghost use Rattle.block.specs.Table.{table};
+ghost use Rattle.block.specs.CodewordDefinition.{Tables, Further};
+ghost use Rattle.staged_decoding.specs.Definition.{decode as Decode, total, count-of};
+ghost use Rattle.staged_decoding.specs.Clean.{untouched};
+ghost use Rattle.stages.specs.SubwordDefinition.{verdict-of};
+ghost use Rattle.stages.specs.View.{says, Reached};
+ghost use Rattle.decoder.specs.PreparedDefinition.{concluded, Tells, Gives};
+use field::Gf;
+use polynomial::SYNDROMES;
+use profile::Answer;
+use profile::Profile;
+use profile::Refusal;
+use profile::SUBWORDS;
+use solver::Form;
+use stages::Ending;
+use stages::subword::Line;
+use stages::subword::Verdict;
+
+// The most symbols of a block.
+const SYMBOLS: usize = 2040;
+
+// The lines of the subwords, lines that are no subword's being clean; how many symbols were changed; the last stage entered.
+pub struct Report {
+    pub lines: [Line; SUBWORDS],
+    pub changed: u16,
+    pub last: u8,
+}
+
+// A refusal comes with the empty report.
+pub struct Reading {
+    pub answer: Answer,
+    pub report: Report,
+}
+
+// How many symbols a line says were changed.
+fn changes(l: Line) -> u16
+    ensures { λ n. ⌜ n ≡ count-of (verdict-of (l .verdict)) ⌝ }
+    ensures small { λ n. ⌜ n ≤ 255 ⌝ }
+{
+    let v = l.verdict;
+    match v {
+        Verdict::Clean => 0,
+        Verdict::Corrected(count, _) => count as u16,
+    }
+}
+
+// How many symbols were changed in m subwords.
+fn changed(lines: [Line; SUBWORDS], m: usize) -> u16
+    requires { ⌜ m ≤ 8 ⌝ }
+    ensures { λ n. ⌜ n ≡ total m (λ i. count-of (says lines i)) ⌝ }
+{
+    let mut sum: u16 = 0;
+    let mut i: usize = 0;
+    while i < m {
+        sum = sum + changes(lines[i]);
+        i = i + 1;
+    }
+    sum
+}
+
+// The empty report: clean lines, nothing changed, stage 0.
+fn empty(form: Form) -> Report
+    ensures { λ r. ⌜ Tells form untouched r ⌝ }
+{
+    let lines = stages::start(form);
+    Report {
+        lines: lines,
+        changed: 0,
+        last: 0,
+    }
+}
+
+// A refusal leaves every byte of the output.
+pub fn refuse(q: Refusal, form: Form, out: &mut [u8]) -> Reading
+    ensures answer { λ r. ⌜ r .answer ≡ Answer.Refused q ⌝ }
+    ensures same { λ _. ⌜ now (out .exit) ≡ now (out .entry) ⌝ }
+    ensures report { λ r. ⌜ Tells form untouched (r .report) ⌝ }
+{
+    let report = empty(form);
+    Reading {
+        answer: Answer::Refused(q),
+        report: report,
+    }
+}
+
+// Room for a block.
+fn room() -> [u8; SYMBOLS] {
+    [0u8; SYMBOLS]
+}
+
+// Copies a block.
+fn copy(from: &[u8], to: &mut [u8])
+    requires { ⌜ length (now to) ≡ length (now from) ⌝ }
+    ensures { λ _. ⌜ now (to .exit) ≡ now (from .entry) ⌝ }
+{
+    let mut i: usize = 0;
+    while i < from.len() {
+        to[i] = from[i];
+        i = i + 1;
+    }
+}
+
+// What is answered where decoding ended: the block goes out if every subword is settled and it is a codeword.
+fn conclude(p: Profile, form: Form, u: &[u64], e: Ending, block: &[u8], out: &mut [u8]) -> Reading
+    requires { ⌜ Fits p (now block) × (length (now out) ≡ length (now block)) × Further p (now u) × (e .settled ≡ true → Subwords p (bytes (now block))) ⌝ }
+    ensures { λ r. ⌜ ((y : Series) → Reached p form y (bytes (now (block .entry))) e
+        → Gives form (concluded p (Decode p y)) (now (out .entry)) (now (out .exit)) r) ⌝ }
+{
+    if !e.settled {
+        return refuse(Refusal::Unsettled(e.stage), form, out);
+    }
+    if !block::codeword::is_codeword(p, u, block) {
+        return refuse(Refusal::NotCodeword, form, out);
+    }
+    copy(block, out);
+    let lines = e.lines;
+    Reading {
+        answer: Answer::Accepted,
+        report: Report {
+            lines: lines,
+            changed: changed(lines, p.subwords as usize),
+            last: e.stage,
+        },
+    }
+}
+
+// Decodes a copy of the input, made in the block that is lent, from its syndromes.
+fn decode_copy(
+    p: Profile,
+    form: Form,
+    u: &[u64],
+    syndromes: [[Gf; SYNDROMES]; SUBWORDS],
+    input: &[u8],
+    block: &mut [u8],
+    out: &mut [u8],
+) -> Reading
+    requires { ⌜ Fits p (now input) × (length (now block) ≡ length (now input)) × (length (now out) ≡ length (now input)) × Further p (now u)
+        × (table syndromes ≡ received p (bytes (now input)) (2 * p .t0)) ⌝ }
+    ensures { λ r. ⌜ Gives form (concluded p (Decode p (bytes (now (input .entry))))) (now (out .entry)) (now (out .exit)) r ⌝ }
+{
+    copy(input, block);
+    let e = stages::run(p, form, u, syndromes, block);
+    conclude(p, form, u, e, block, out)
+}
+
+// Reads a block of an accepted profile, by its tables. A codeword goes out as it came, and no stage is entered; for any other block room for a copy is made.
+pub fn read(p: Profile, form: Form, t: &[u64], u: &[u64], input: &[u8], out: &mut [u8]) -> Reading
+    requires { ⌜ Fits p (now input) × (length (now out) ≡ length (now input)) × Tables p (now t) (now u) ⌝ }
+    ensures { λ r. ⌜ Gives form (concluded p (Decode p (bytes (now (input .entry))))) (now (out .entry)) (now (out .exit)) r ⌝ }
+{
+    let syndromes = block::received::syndromes(p, t, input);
+    if block::codeword::is_clean(p, u, syndromes, input) {
+        copy(input, out);
+        return Reading {
+            answer: Answer::Accepted,
+            report: empty(form),
+        };
+    }
+    let n = input.len();
+    let mut block = room();
+    decode_copy(p, form, u, syndromes, input, &mut block[..n], out)
+}

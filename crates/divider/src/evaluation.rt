@@ -1,0 +1,114 @@
+// Values of a short word at the roots, thirty-two at a time; a word's syndromes from its remainder.
+ghost use Prim.Native.Nat.{_+_, _-_, _%_, _≤_, _<_};
+ghost use mathlib.Core.Path.{_≡_};
+ghost use mathlib.Core.Logic.{_≢_};
+ghost use mathlib.Core.Bool.{true, false};
+ghost use lib.ListN.{length};
+ghost use Rattle.field.specs.Field.{_⊕_, _⊙_, of};
+ghost use Rattle.series.specs.Series.{O};
+ghost use Rattle.series.specs.Shift.{cut};
+ghost use Rattle.series.specs.Array.{bytes};
+ghost use Rattle.polynomial.specs.Polynomial.{row};
+ghost use Rattle.divider.specs.GeneratorTable.{Table};
+ghost use Rattle.code.specs.Word.{root as Root, syndrome as Syndrome};
+ghost use Rattle.divider.specs.EvaluationLanes.{Lanes};
+use field::Gf;
+use polynomial::SYNDROMES;
+
+// At j: α^(j+1).
+const ROOTS: [u8; 64] = *b"\x02\x04\x08\x10\x20\x40\x80\x1d\x3a\x74\xe8\xcd\x87\x13\x26\x4c\
+    \x98\x2d\x5a\xb4\x75\xea\xc9\x8f\x03\x06\x0c\x18\x30\x60\xc0\x9d\
+    \x27\x4e\x9c\x25\x4a\x94\x35\x6a\xd4\xb5\x77\xee\xc1\x9f\x23\x46\
+    \x8c\x05\x0a\x14\x28\x50\xa0\x5d\xba\x69\xd2\xb9\x6f\xde\xa1\x5f";
+
+// Whether all symbols are zero: their bits, taken together.
+fn is_zero(word: &[u8]) -> bool
+    ensures { λ b. ⌜ (b ≡ true → bytes (now (word .entry)) ≡ O) × (b ≡ false → bytes (now (word .entry)) ≢ O) ⌝ }
+{
+    let mut bits: u8 = 0;
+    let mut i: usize = 0;
+    while i < word.len() {
+        bits = bits | word[i];
+        i += 1;
+    }
+    bits == 0
+}
+
+// The 64 roots from root 0 on. The table by what it means: no caller sees its entries.
+fn roots() -> [u8; 64]
+    ensures { λ r. ⌜ bytes r ≡ cut 64 Root ⌝ }
+{
+    ROOTS
+}
+
+// A step of Horner's rule at the 32 points from point i on: no table and no branch, so the compiler takes sixteen products at a time. A product is a
+// chain of eight steps that wait for one another, so two of them side by side take hardly longer than one.
+fn horner(x: &[u8], i: usize, v: [u8; 32], s: u8) -> [u8; 32]
+    requires { ⌜ i + 32 ≤ length (now x) ⌝ }
+    ensures { λ r. ⌜ bytes r ≡ cut 32 (λ j. bytes v j ⊙ bytes (now (x .entry)) (i + j) ⊕ of s) ⌝ }
+{
+    let mut out = [0u8; 32];
+    let mut j: usize = 0;
+    while j < 32 {
+        out[j] = kernel::multiply(v[j], x[i + j]) ^ s;
+        j += 1;
+    }
+    out
+}
+
+// Syndromes i to i + 31.
+fn block(r: &[u8], i: usize) -> [u8; 32]
+    requires { ⌜ i ≤ 32 ⌝ }
+    ensures { λ v. ⌜ Lanes (length (now (r .entry))) (bytes (now (r .entry))) i v ⌝ }
+{
+    let x = roots();
+    let mut v = [0u8; 32];
+    let mut p: usize = r.len();
+    while p > 0 {
+        p -= 1;
+        let next = horner(&x, i, v, r[p]);
+        v = next;
+    }
+    v
+}
+
+// The block that syndrome i belongs to: this one, or the next if i begins it.
+fn lanes(r: &[u8], i: usize, v: [u8; 32]) -> [u8; 32]
+    requires { ⌜ (i < 48) × (0 < i % 32 → Lanes (length (now r)) (bytes (now r)) (i - i % 32) v) ⌝ }
+    ensures { λ u. ⌜ Lanes (length (now (r .entry))) (bytes (now (r .entry))) (i - i % 32) u ⌝ }
+{
+    if i % 32 == 0 {
+        return block(r, i);
+    }
+    v
+}
+
+// S_0 to S_(k-1) of a short word, as a remainder is, then zeros. No lanes are run for a word of zeros, as the remainder of a clean word is.
+pub fn at_roots(r: &[u8], k: usize) -> [Gf; SYNDROMES]
+    requires { ⌜ k ≤ 48 ⌝ }
+    ensures { λ s. ⌜ row s ≡ cut k (Syndrome (length (now (r .entry))) (bytes (now (r .entry)))) ⌝ }
+{
+    if is_zero(r) {
+        return [Gf::ZERO; SYNDROMES];
+    }
+    let mut out = [Gf::ZERO; SYNDROMES];
+    let mut v = [0u8; 32];
+    let mut i: usize = 0;
+    while i < k {
+        let u = lanes(r, i, v);
+        let s = u[i % 32];
+        out[i] = Gf(s);
+        v = u;
+        i = i + 1;
+    }
+    out
+}
+
+// S_0 to S_(k-1) of a word, then zeros: from its remainder, which is short, and zero if the word is clean.
+pub fn syndromes(t: &[u64], k: usize, word: &[u8]) -> [Gf; SYNDROMES]
+    requires { ⌜ Table 0 k (now t) × (k ≤ 48) × (k ≤ length (now word)) ⌝ }
+    ensures { λ r. ⌜ row r ≡ cut k (Syndrome (length (now (word .entry))) (bytes (now (word .entry)))) ⌝ }
+{
+    let r = crate::reed_solomon::residue(t, 0, k, word);
+    at_roots(&r[..k], k)
+}

@@ -1,2 +1,0 @@
--- What is written of four subwords.
-pub mod Fours

@@ -1,0 +1,52 @@
+-- The numbers of a report, in place of enums and structs.
+--
+--   stage-of a         the stage that an 8 says, 0 with any other number
+--   line-numbers l     the three numbers of a line; lines-numbers n f: those of the lines f 0 to f (n − 1)
+--   listed s r c f     the numbers of a report: s is the stage of an 8, r the last stage, c the changed symbols, f the lines
+--   filled l b         the buffer b after as many of the numbers l as it has room for were written to it
+use Prim.Native.Nat.{ℕ, zero, suc, _/_, _%_}
+use mathlib.Core.List.{List, [], _∷_, _++_}
+use lib.ListN.{length, take, drop}
+use Rattle.profile.specs.declared.Refusal.{Refusal}
+use Rattle.profile.specs.declared.Refusal.the-variants.{ProfileSize, Subwords, Nested, Capabilities, Length, InputSize, OutputSize}
+use Rattle.profile.specs.declared.Refusal.the-variants.{Unsettled, NotCodeword, Subword}
+use Rattle.profile.specs.declared.Answer.{Answer}
+use Rattle.profile.specs.declared.Answer.the-variants.{Accepted, Refused}
+use Rattle.staged_decoding.specs.Definition.{Line, clean, corrected}
+
+-- of a refusal
+abbrev pub unsettled-stage : Refusal → ℕ
+unsettled-stage ProfileSize = 0
+unsettled-stage Subwords = 0
+unsettled-stage Nested = 0
+unsettled-stage Capabilities = 0
+unsettled-stage Length = 0
+unsettled-stage InputSize = 0
+unsettled-stage OutputSize = 0
+unsettled-stage (Unsettled r) = r
+unsettled-stage NotCodeword = 0
+unsettled-stage Subword = 0
+
+abbrev pub stage-of : Answer → ℕ
+stage-of Accepted = 0
+stage-of (Refused q) = unsettled-stage q
+
+abbrev pub line-numbers : Line → List ℕ
+line-numbers clean = 0 ∷ 0 ∷ 0 ∷ []
+line-numbers (corrected k r) = 1 ∷ k ∷ r ∷ []
+
+abbrev pub lines-numbers : ℕ → (ℕ → Line) → List ℕ
+lines-numbers zero f = []
+lines-numbers (suc n) f = lines-numbers n f ++ line-numbers (f n)
+
+-- the changed symbols are two bytes, high byte first
+abbrev pub head-numbers : (stage last changed : ℕ) → List ℕ
+head-numbers s r c = s ∷ r ∷ c / 256 ∷ c % 256 ∷ []
+
+-- 28 of them
+abbrev pub listed : (stage last changed : ℕ) → (ℕ → Line) → List ℕ
+listed s r c f = head-numbers s r c ++ lines-numbers 8 f
+
+-- "every output buffer keeps its bytes", past what is written
+abbrev pub filled : List ℕ → List ℕ → List ℕ
+filled l b = take (length b) l ++ drop (length l) b

@@ -1,0 +1,91 @@
+-- Lists of numbers, and buffers that they fill.
+--
+-- Proved: a list takes up three numbers (put-three), line after line (lines-none, lines-more, lines-all); a buffer is filled number by number
+-- (filled-more, filled-length, filled-all, filled-up).
+use Prim.Native.Nat.{ℕ, zero, suc, _+_, _*_, _≤_, _<_}
+use mathlib.Core.Path.{_≡_, refl, sym, ap, ap₂, _∙_}
+use mathlib.Core.List.{List, [], _∷_, _++_, append-assoc, append-nil}
+use native.Mathlib.Numerals.{add-one}
+use native.Mathlib.Omega.{arith}
+use lib.ListN.{length, getD, set, take, drop, length-set, length-append, length-drop, drop-of-length-le}
+use lib.Seq.{take-all, take-suc-set, length-take-le}
+use Rattle.staged_decoding.specs.Definition.{Line}
+use Rattle.stages.specs.declared.subword.Line as turn
+use Rattle.stages.specs.SubwordDefinition.{verdict-of}
+use Rattle.stages.specs.View.{says}
+use Rattle.stages.specs.Lines.{has, says-at}
+use Rattle.gii.specs.NumbersDefinition.{line-numbers, lines-numbers, filled}
+
+-- ---- lists of numbers
+
+entries : (x : List ℕ) → length x ≡ 3 → getD x 0 0 ∷ getD x 1 0 ∷ getD x 2 0 ∷ [] ≡ x
+entries [] e = absurd (omega arith)
+entries (a ∷ []) e = absurd (omega arith)
+entries (a ∷ b ∷ []) e = absurd (omega arith)
+entries (a ∷ b ∷ c ∷ []) e = refl
+entries (a ∷ b ∷ c ∷ d ∷ x) e = absurd (omega arith)
+
+three : (l : List ℕ) (k x y z : ℕ) → k + 3 ≤ length l
+    → take (k + 3) (set (set (set l k x) (k + 1) y) (k + 2) z) ≡ take k l ++ (x ∷ y ∷ z ∷ [])
+three l k x y z h =
+    let a = set l k x in
+    let b = set a (k + 1) y in
+    let la : length a ≡ length l = length-set l k x in
+    let lb : length b ≡ length l = length-set a (k + 1) y ∙ la in
+    let e3 : k + 3 ≡ suc (k + 2) = omega arith in
+    let e2 : k + 2 ≡ suc (k + 1) = omega arith in
+    ap (λ n. take n (set b (k + 2) z)) e3
+    ∙ take-suc-set b (k + 2) z (omega (arith, lb))
+    ∙ ap (λ n. take n b ++ (z ∷ [])) e2
+    ∙ ap (λ w. w ++ (z ∷ [])) (take-suc-set a (k + 1) y (omega (arith, la)) ∙ ap (λ n. take n a ++ (y ∷ [])) (add-one k)
+    ∙ ap (λ w. w ++ (y ∷ [])) (take-suc-set l k x (omega arith)) ∙ append-assoc (take k l) (x ∷ []) (y ∷ []))
+    ∙ append-assoc (take k l) (x ∷ y ∷ []) (z ∷ [])
+
+pub put-three : (list x : List ℕ) (k : ℕ) → k + 3 ≤ length list → length x ≡ 3
+    → take (k + 3) (set (set (set list k (getD x 0 0)) (k + 1) (getD x 1 0)) (k + 2) (getD x 2 0)) ≡ take k list ++ x
+put-three list x k h e = three list k (getD x 0 0) (getD x 1 0) (getD x 2 0) h ∙ ap (λ n. take k list ++ n) (entries x e)
+
+pub lines-none : (f : ℕ → Line) (l : List ℕ) → take (4 + 3 * 0) l ≡ take 4 l ++ lines-numbers 0 f
+lines-none f l = sym (append-nil (take 4 l))
+
+pub lines-more : (lines : List turn.Line) (h list next x : List ℕ) (i : ℕ) (d : turn.Line) → i < length lines
+    → take (4 + 3 * i) list ≡ h ++ lines-numbers i (says lines) → x ≡ line-numbers (verdict-of (getD lines i d .verdict))
+    → take (4 + 3 * i + 3) next ≡ take (4 + 3 * i) list ++ x → take (4 + 3 * (i + 1)) next ≡ h ++ lines-numbers (i + 1) (says lines)
+lines-more lines h list next x i d below is line put =
+    let n : 4 + 3 * (i + 1) ≡ 4 + 3 * i + 3 = omega arith in
+    let l : x ≡ line-numbers (says lines i) = line ∙ ap line-numbers (sym (says-at lines i (getD lines i d) (has lines i d below))) in
+    ap (λ n. take n next) n
+    ∙ put
+    ∙ ap₂ _++_ is l
+    ∙ append-assoc h (lines-numbers i (says lines)) (line-numbers (says lines i))
+    ∙ ap (λ n. h ++ lines-numbers n (says lines)) (sym (add-one i))
+
+pub lines-all : (f : ℕ → Line) (h head list : List ℕ) (i : ℕ) → i ≡ 8 → length list ≡ 28 → take 4 head ≡ h
+    → take (4 + 3 * i) list ≡ take 4 head ++ lines-numbers i f → list ≡ h ++ lines-numbers 8 f
+lines-all f h head list i e long first is =
+    sym (take-all (4 + 3 * i) list (omega arith)) ∙ is ∙ ap₂ (λ n k. n ++ lines-numbers k f) first e
+
+-- ---- filling a buffer
+
+module _ (l b : List ℕ) where
+  pub filled-more : (i : ℕ) → i < length l → i < length b → set (take i l ++ drop i b) i (getD l i 0) ≡ take (i + 1) l ++ drop (i + 1) b
+  filled-more i h k = go l b i h k ∙ ap (λ n. take n l ++ drop n b) (sym (add-one i))
+    where
+      go : (l b : List ℕ) (i : ℕ) → i < length l → i < length b → set (take i l ++ drop i b) i (getD l i 0) ≡ take (suc i) l ++ drop (suc i) b
+      go [] b i h k = absurd (omega arith)
+      go (x ∷ l) [] i h k = absurd (omega arith)
+      go (x ∷ l) (y ∷ b) zero h k = refl
+      go (x ∷ l) (y ∷ b) (suc i) h k = ap (_∷_ x) (go l b i (omega arith) (omega arith))
+
+  pub filled-length : (i : ℕ) → i ≤ length l → i ≤ length b → length (take i l ++ drop i b) ≡ length b
+  filled-length i h k =
+      let e : length (take i l) + length (drop i b) ≡ length b = omega (arith, length-take-le i l h, length-drop i b) in
+      length-append (take i l) (drop i b) ∙ e
+
+  -- all numbers are written
+  pub filled-all : (i : ℕ) → i ≡ length l → i ≤ length b → take i l ++ drop i b ≡ filled l b
+  filled-all i e h = ap₂ _++_ (take-all i l (omega arith) ∙ sym (take-all (length b) l (omega arith))) (ap (λ n. drop n b) e)
+
+  -- the buffer is full
+  pub filled-up : (i : ℕ) → i ≡ length b → i ≤ length l → take i l ++ drop i b ≡ filled l b
+  filled-up i e h = ap₂ _++_ (ap (λ n. take n l) e) (drop-of-length-le b {i = i} (omega arith) ∙ sym (drop-of-length-le b {i = length l} (omega arith)))

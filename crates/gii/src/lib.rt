@@ -1,0 +1,115 @@
+// The codec for C and for Rust: plain numbers and lent bytes, each slice a pointer and a length. include/gii.h says the same to a C compiler.
+// What the promises speak of stands in specs/Definition.antt and
+// specs/NumbersDefinition.antt, and in profile's specs/LayoutDefinition.antt.
+mod numbers;
+
+ghost use mathlib.Core.Path.{_≡_};
+ghost use lib.Dec.{eqb};
+ghost use lib.ListN.{length};
+ghost use Rattle.profile.specs.Definition.{profile-of, answer-of, answer-number, block-size as BlockSize, data-size as DataSize};
+ghost use Rattle.profile.specs.LayoutDefinition.{if-accepted, start as Start};
+ghost use Rattle.profile.specs.FetchDefinition.{fetching, part as Part, refuses};
+ghost use Rattle.encoder.specs.Definition.{writing, written};
+ghost use Rattle.decoder.specs.PreparedDefinition.{answer-to, block-of};
+ghost use Rattle.decoder.specs.Definition.{reading};
+ghost use Rattle.gii.specs.NumbersDefinition.{filled};
+ghost use Rattle.gii.specs.Definition.{Stands, form-of, numbers};
+use profile::Answer;
+use solver::Form;
+
+// ---- sizes
+
+// The data symbols of a block, 0 exactly if the profile is refused.
+#[no_mangle]
+pub extern "C" fn gii_data_size(profile: &[u8]) -> usize
+    ensures { λ n. ⌜ n ≡ if-accepted DataSize (profile-of (now (profile .entry))) ⌝ }
+    ensures refused { λ n. ⌜ eqb n 0 ≡ refuses (answer-of (profile-of (now (profile .entry)))) ⌝ }
+{
+    profile::layout::sizes_of(profile).payload
+}
+
+// The symbols of a block, 0 exactly if the profile is refused.
+#[no_mangle]
+pub extern "C" fn gii_block_size(profile: &[u8]) -> usize
+    ensures { λ n. ⌜ n ≡ if-accepted BlockSize (profile-of (now (profile .entry))) ⌝ }
+    ensures refused { λ n. ⌜ eqb n 0 ≡ refuses (answer-of (profile-of (now (profile .entry)))) ⌝ }
+{
+    profile::layout::sizes_of(profile).block
+}
+
+// ---- writing
+
+// Writes the block with the given data: 0, or the number of the first question that says no.
+#[no_mangle]
+pub extern "C" fn gii_encode(profile: &[u8], data: &[u8], out: &mut [u8]) -> u8
+    ensures number { λ n. ⌜ n ≡ answer-number (answer-of (writing (now (profile .entry)) (length (now («data» .entry))) (length (now (out .entry))))) ⌝ }
+    ensures block { λ _. ⌜ now (out .exit) ≡ written (writing (now (profile .entry)) (length (now («data» .entry))) (length (now (out .entry)))) (now («data» .entry)) (now (out .entry)) ⌝ }
+{
+    encoder::encode(profile, data, out).number()
+}
+
+// ---- reading
+
+// 1 is lookahead, 2 scaled, any other number plain.
+fn form_of(f: u8) -> Form
+    ensures { λ r. ⌜ r ≡ form-of f ⌝ }
+{
+    match f {
+        1 => Form::Lookahead,
+        2 => Form::Scaled,
+        _ => Form::Plain,
+    }
+}
+
+// Reads a block with the solver in the form of that number. The report's numbers do not depend on it.
+#[no_mangle]
+pub extern "C" fn gii_decode(
+    profile: &[u8],
+    input: &[u8],
+    out: &mut [u8],
+    form: u8,
+    report: &mut [u8],
+) -> u8
+    ensures number { λ n. ⌜ n ≡ answer-number (answer-to (reading (now (profile .entry)) (now (input .entry)) (length (now (out .entry))))) ⌝ }
+    ensures block { λ _. ⌜ now (out .exit) ≡ block-of (reading (now (profile .entry)) (now (input .entry)) (length (now (out .entry)))) (now (out .entry)) ⌝ }
+    ensures report { λ _. ⌜ now (report .exit) ≡ filled (numbers (reading (now (profile .entry)) (now (input .entry)) (length (now (out .entry))))) (now (report .entry)) ⌝ }
+{
+    let r = decoder::decode(profile, input, out, form_of(form));
+    let a = r.answer;
+    let x = r.report;
+    let lines = x.lines;
+    let list = crate::numbers::list_of(crate::numbers::stage_of(a), x.last, x.changed, lines);
+    crate::numbers::fill(&list, report);
+    a.number()
+}
+
+// ---- fetching
+
+// The number of a fetch; the part it names starts at gii_fetch_start and has gii_fetch_size symbols.
+#[no_mangle]
+pub extern "C" fn gii_fetch(profile: &[u8], block: &[u8], i: usize) -> u8
+    ensures { λ n. ⌜ n ≡ answer-number (answer-of (fetching (now (profile .entry)) (length (now (block .entry))) i)) ⌝ }
+{
+    profile::fetch::answer(profile, block, i).number()
+}
+
+// Where the part starts in the block, 0 if the fetch is refused.
+#[no_mangle]
+pub extern "C" fn gii_fetch_start(profile: &[u8], block: &[u8], i: usize) -> usize
+    ensures { λ n. ⌜ n ≡ if-accepted (λ p. Start p i) (fetching (now (profile .entry)) (length (now (block .entry))) i) ⌝ }
+    ensures part { λ n. ⌜ Stands (fetching (now (profile .entry)) (length (now (block .entry))) i) i (now (block .entry)) n ⌝ }
+{
+    match profile::fetch::answer(profile, block, i) {
+        Answer::Accepted => profile::layout::accepted_start(profile, i as u8),
+        Answer::Refused(_) => 0,
+    }
+}
+
+// The symbols of the part, 0 exactly if the fetch is refused.
+#[no_mangle]
+pub extern "C" fn gii_fetch_size(profile: &[u8], block: &[u8], i: usize) -> usize
+    ensures { λ n. ⌜ n ≡ length (Part (fetching (now (profile .entry)) (length (now (block .entry))) i) i (now (block .entry))) ⌝ }
+    ensures refused { λ n. ⌜ eqb n 0 ≡ refuses (answer-of (fetching (now (profile .entry)) (length (now (block .entry))) i)) ⌝ }
+{
+    profile::fetch::part(profile, block, i).len()
+}

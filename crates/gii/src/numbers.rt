@@ -1,0 +1,103 @@
+// A report as numbers, and a buffer that they fill. What the promises speak of stands in specs/NumbersDefinition.antt.
+ghost use Prim.Native.Nat.{_+_, _≤_};
+ghost use mathlib.Core.Path.{_≡_};
+ghost use mathlib.Core.List.{_++_};
+ghost use lib.ListN.{length, take};
+ghost use Rattle.stages.specs.SubwordDefinition.{verdict-of};
+ghost use Rattle.stages.specs.View.{says};
+ghost use Rattle.gii.specs.NumbersDefinition.{unsettled-stage, stage-of, line-numbers, head-numbers, listed, filled};
+use profile::Answer;
+use profile::Refusal;
+use profile::SUBWORDS;
+use stages::subword::Line;
+use stages::subword::Verdict;
+
+// The numbers of a report: the stage of an 8, the last stage, the changed symbols in two bytes, high byte first, and three for each of eight lines.
+pub const REPORT: usize = 28;
+
+fn unsettled_stage(q: Refusal) -> u8
+    ensures { λ s. ⌜ s ≡ unsettled-stage q ⌝ }
+{
+    match q {
+        Refusal::ProfileSize => 0,
+        Refusal::Subwords => 0,
+        Refusal::Nested => 0,
+        Refusal::Capabilities => 0,
+        Refusal::Length => 0,
+        Refusal::InputSize => 0,
+        Refusal::OutputSize => 0,
+        Refusal::Unsettled(r) => r,
+        Refusal::NotCodeword => 0,
+        Refusal::Subword => 0,
+    }
+}
+
+// The stage that an 8 says, 0 with any other number.
+pub fn stage_of(a: Answer) -> u8
+    ensures { λ s. ⌜ s ≡ stage-of a ⌝ }
+{
+    match a {
+        Answer::Accepted => 0,
+        Answer::Refused(q) => unsettled_stage(q),
+    }
+}
+
+// A line's numbers: 0 0 0 for clean, else 1, its count and its stage.
+fn line_numbers(l: Line) -> [u8; 3]
+    ensures { λ r. ⌜ r ≡ line-numbers (verdict-of (l .verdict)) ⌝ }
+{
+    let v = l.verdict;
+    match v {
+        Verdict::Clean => [0, 0, 0],
+        Verdict::Corrected(count, stage) => [1, count, stage],
+    }
+}
+
+// Puts three numbers into the list, from k on.
+fn put(x: [u8; 3], k: usize, list: &mut [u8])
+    requires { ⌜ k + 3 ≤ length (now list) ⌝ }
+    ensures { λ _. ⌜ take (k + 3) (now (list .exit)) ≡ take k (now (list .entry)) ++ x ⌝ }
+{
+    list[k] = x[0];
+    list[k + 1] = x[1];
+    list[k + 2] = x[2];
+}
+
+// The numbers before the lines, and zeros.
+fn head(stage: u8, last: u8, changed: u16) -> [u8; REPORT]
+    ensures { λ r. ⌜ take 4 r ≡ head-numbers stage last changed ⌝ }
+{
+    let mut list = [0u8; REPORT];
+    list[0] = stage;
+    list[1] = last;
+    list[2] = (changed / 256) as u8;
+    list[3] = (changed % 256) as u8;
+    list
+}
+
+// All numbers of a report, and the stage of an 8.
+pub fn list_of(stage: u8, last: u8, changed: u16, lines: [Line; SUBWORDS]) -> [u8; REPORT]
+    ensures { λ r. ⌜ r ≡ listed stage last changed (says lines) ⌝ }
+{
+    let mut list = head(stage, last, changed);
+    let mut i: usize = 0;
+    while i < SUBWORDS {
+        put(line_numbers(lines[i]), 4 + 3 * i, &mut list);
+        i = i + 1;
+    }
+    list
+}
+
+// Copies as much as there is room for; bytes past that keep their value.
+pub fn fill(list: &[u8], to: &mut [u8])
+    ensures { λ _. ⌜ now (to .exit) ≡ filled (now (list .entry)) (now (to .entry)) ⌝ }
+{
+    let mut i: usize = 0;
+    while i < list.len() {
+        if to.len() <= i {
+            return;
+        }
+        to[i] = list[i];
+        i = i + 1;
+    }
+}

@@ -1,2 +1,0 @@
--- Definition is what the promises speak of.
-pub mod Definition

@@ -1,2 +1,0 @@
--- Product holds what `numerator` goes by.
-pub mod Product

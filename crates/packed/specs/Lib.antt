@@ -1,2 +1,0 @@
--- `packed`, `tops`: what the promises speak of.
-pub mod Packed

@@ -1,0 +1,58 @@
+-- Laws of fetching.
+--
+--   Within p s i   subword i of the profile p is one of a block of s symbols, and has data
+--
+-- Proved: it is so of an accepted fetch; the data positions are in the block; they are some.
+use Prim.Native.Nat.{ℕ, zero, suc, _+_, _-_, _*_, _≤_, _<_}
+use mathlib.Core.Path.{_≡_, refl, ap, ap₂}
+use mathlib.Core.Bool.{false}
+use mathlib.Core.List.{List, [], _∷_}
+use native.Mathlib.Nat.{mul-le-mul-right, suc-mul}
+use native.Mathlib.Numerals.{add-one}
+use native.Mathlib.Omega.{arith}
+use borrow.Author.Tests.{ltb-true, eqb-true}
+use lib.Dec.{ltb, eqb}
+use lib.ListN.{length, take, drop, length-drop}
+use Rattle.profile.specs.declared.Profile.{Profile}
+use Rattle.profile.specs.declared.Refusal.the-variants.{InputSize, Subword}
+use Rattle.profile.specs.declared.Parsed.the-variants.{Accepted}
+use Rattle.profile.specs.Definition.{profile-of, ask, block-size, checks}
+use Rattle.profile.specs.Laws.{ask-yes}
+use Rattle.profile.specs.Valid.{profile-read, profile-valid, checks-room}
+use Rattle.profile.specs.FetchDefinition.{fetching, between, part, empty}
+
+pub record Within (p : Profile) (s i : ℕ) : Type 0 where
+  pub subword : i < p .subwords
+  pub room : checks p i < p .length
+  pub size : s ≡ block-size p
+
+-- n is a byte
+pub accepted : (b : List ℕ) (s i : ℕ) (p : Profile) → fetching b s i ≡ Accepted p → p .length ≤ 255 → Within p s i
+accepted b s i p e small =
+    let (e1, below) = ask-yes (λ p. ltb i (p .subwords)) Subword (ask (λ p. eqb s (block-size p)) InputSize (profile-of b)) p e in
+    let (e2, size) = ask-yes (λ p. eqb s (block-size p)) InputSize (profile-of b) p e1 in
+    record {
+      subword = ltb-true i (p .subwords) below;
+      room = checks-room p (profile-valid b p e2 (rw (ap (λ q. q .length) (profile-read b p e2)) small)) i;
+      size = eqb-true s (block-size p) size;
+    }
+
+-- ---- parts
+
+pub end-in : {p : Profile} {s i : ℕ} → Within p s i → i * p .length + p .length ≤ s
+end-in {p} {s} {i} fits = rw (fits .size) (omega (arith, suc-mul i (p .length), mul-le-mul-right (p .length) (fits .subword)))
+
+-- n symbols from the start of a subword on, without its check symbols
+pub part-is : (p : Profile) (i a e : ℕ) (block : List ℕ)
+    → a ≡ i * p .length + checks p i → e ≡ i * p .length + p .length → between a e block ≡ part (Accepted p) i block
+part-is p i a e block h k =
+    let end : e ≡ (i + 1) * p .length = rw add-one (omega (arith, k, suc-mul i (p .length))) in
+    ap₂ (λ a e. between a e block) h end
+
+take-some : (n : ℕ) (l : List ℕ) → 0 < n → 0 < length l → empty (take n l) ≡ false
+take-some zero l h k = absurd (omega arith)
+take-some (suc n) [] h k = absurd (omega arith)
+take-some (suc n) (x ∷ l) h k = refl
+
+pub between-some : (a e : ℕ) (l : List ℕ) → a < e → e ≤ length l → empty (between a e l) ≡ false
+between-some a e l h k = take-some (e - a) (drop a l) (omega arith) (omega (arith, length-drop a l))

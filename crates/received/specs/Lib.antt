@@ -1,2 +1,0 @@
--- Rows is what the promises speak of, with its laws.
-pub mod Rows

@@ -1,0 +1,144 @@
+-- The terms at position p stand, and the values at the positions before it, 85 on and 170 on.
+use Prim.Native.Nat.{ℕ, _+_, _-_, _≤_}
+use mathlib.Core.Path.{_≡_, refl, sym, ap, _∙_}
+use native.Mathlib.Omega.{arith}
+use lib.ListN.{length}
+use Rattle.field.specs.Field.{𝟏, of, pow}
+use Rattle.series.specs.Degree.{below, below-cut}
+use Rattle.series.specs.Value.{value}
+use Rattle.kernel.specs.Row.{row-products, factor-products}
+use Rattle.settling.specs.Locator.{W, W-is}
+use Rattle.settle.specs.PositionsTerm.{W-nonzero, terms, below-terms, terms-first, terms-add}
+use Rattle.settle.specs.PositionsExponent.{symbols, table-set, steps-terms}
+use Rattle.settle.specs.PositionsThird.{three, value-three, cube-zero, cube-one, cube-two, Placed, placed-none, placed-more, placed-all}
+use borrow.Author.Needs.{needs}
+use Rattle.settle.proofs.positions.values.Statement.{statement}
+use Rattle.settle.proofs.positions.values.Tie as tie
+
+abbrev Inv-loop : tie.InvT-loop
+Inv-loop k power row e₀ step out₀ p₀ e out p =
+    (p ≤ 85) × (length e ≡ 32) × (symbols e ≡ terms (W p) (symbols e₀)) × Placed p (λ q. value k (symbols e₀) (W q)) out
+
+abbrev μ-loop : tie.MeasureT-loop
+μ-loop k power row e₀ step out₀ p₀ e out p = 85 - p
+
+powers-requires : tie.Need-powers-requires Inv-loop μ-loop
+powers-requires c κs = search needs
+
+array-write-power : tie.Need-array-write-power Inv-loop μ-loop
+array-write-power c = search needs
+
+power-requires : tie.Need-power-requires Inv-loop μ-loop
+power-requires c κs = search needs
+
+product-row-requires : tie.Need-product-row-requires Inv-loop μ-loop
+product-row-requires c κs = search needs
+
+exponents-requires : tie.Need-exponents-requires Inv-loop μ-loop
+exponents-requires c κs = search needs
+
+steps-requires : tie.Need-steps-requires Inv-loop μ-loop
+steps-requires c κs = (search needs, rw (c .exponents .ensures) (below-cut _ _))
+
+loop-holds : tie.Need-loop-holds Inv-loop μ-loop
+loop-holds c = (search needs, search needs, terms-first _, placed-none _ _ (search needs))
+
+sums-requires : tie.Need-sums-requires Inv-loop μ-loop
+sums-requires c κs =
+    let now = c .before .before .before .loop in
+    let made = c .before .before .before .before .before in
+    let table = made .before .before .before in
+    let k = table .before .args .k in (
+      table-set (table .powers .result) (search needs) (table .powers .ensures),
+      now .inv .1,
+      table .before .pre,
+      rw (now .inv .2) (below-terms k (W (now .p)) _ (rw (made .exponents .ensures) (below-cut k _))),
+    )
+
+spread-requires : tie.Need-spread-requires Inv-loop μ-loop
+spread-requires c κs =
+    let made = c .before .before .before .before .before .before .before .before in
+    let row = made .product-row .ensures in
+    (row-products _ _ (search needs) row, factor-products _ _ row ∙ made .before .power .ensures ∙ sym (W-is 85 (omega arith)))
+
+array-write-out : tie.Need-array-write-out Inv-loop μ-loop
+array-write-out c = search needs
+
+add-out : tie.Need-add-out Inv-loop μ-loop
+add-out c = search needs
+
+array-write-out-2 : tie.Need-array-write-out-2 Inv-loop μ-loop
+array-write-out-2 c = search needs
+
+add-out-2 : tie.Need-add-out-2 Inv-loop μ-loop
+add-out-2 c = search needs
+
+array-write-out-3 : tie.Need-array-write-out-3 Inv-loop μ-loop
+array-write-out-3 c = search needs
+
+next-requires : tie.Need-next-requires Inv-loop μ-loop
+next-requires c κs =
+    let now = c .before .before .before .before .before .before .loop in
+    let made = c .before .before .before .before .before .before .before in
+    rw (now .inv .2) (steps-terms (W (now .p)) _ (made .steps .result) (W-nonzero (now .p)) (made .steps .ensures))
+
+add-p : tie.Need-add-p Inv-loop μ-loop
+add-p c = search needs
+
+loop-less : tie.Need-loop-less Inv-loop μ-loop
+loop-less c = search needs
+
+loop-again : tie.Need-loop-again Inv-loop μ-loop
+loop-again c =
+    let spread = c .before .spread .ensures in
+    let added = c .before .before .before in
+    let s = added .sums .result in
+    let sums = added .sums .ensures in
+    let now = added .before .before .before .before .loop in
+    let p = now .p in
+    let made = added .before .before .before .before .before .before in
+    let given = made .before .before .before .before in
+    let k = given .args .k in
+    let f = symbols (made .exponents .result) in
+    let low : below k f = rw (made .exponents .ensures) (below-cut k _) in
+    let at : (q r : ℕ) → pow (W q) 3 ≡ 𝟏 → r ≡ p + q → three (W q) (of (s .a)) (of (s .b)) (of (s .c)) ≡ value k f (W r) =
+    λ q r root is. value-three k p q r f _ _ _ _ low (omega (arith, given .pre)) root is (now .inv .2) (sums .0) (sums .1) (sums .2) in (
+      omega arith,
+      search needs,
+      c .next .ensures ∙ ap (terms (W 1)) (now .inv .2) ∙ terms-add p 1 f,
+      placed-more _ _ _ (now .inv .3) (omega arith)
+          (spread .0 ∙ at 0 p cube-zero (omega arith)) (spread .1 ∙ at 85 (p + 85) cube-one refl) (spread .2 ∙ at 170 (p + 170) cube-two refl),
+    )
+
+returns : tie.Need-returns Inv-loop μ-loop
+returns c =
+    let end = c .before .loop in
+    let made = c .before .before .before in
+    let e : end .p ≡ 85 = omega arith in
+    placed-all _ _ _ (made .exponents .ensures) (rw e at (end .inv .3))
+
+pub values-spec : {M : Type 1} → statement M
+values-spec =
+    tie.close
+    (tie.spec
+    Inv-loop
+    μ-loop
+    powers-requires
+    array-write-power
+    power-requires
+    product-row-requires
+    exponents-requires
+    steps-requires
+    loop-holds
+    sums-requires
+    spread-requires
+    array-write-out
+    add-out
+    array-write-out-2
+    add-out-2
+    array-write-out-3
+    next-requires
+    add-p
+    loop-less
+    loop-again
+    returns)

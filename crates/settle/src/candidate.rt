@@ -1,0 +1,144 @@
+// The error pattern that a locator puts forward, whatever the locator is. What the promises speak of stands in settling's specs/Candidate.antt, and for
+// the walk over the positions in specs/CandidateLocated.antt.
+// One root is found by logarithms. For more a walk over the locator's values at all positions: where it is zero, the locator and the numerator put a
+// change forward.
+ghost use Prim.Native.Nat.{_+_, _≤_};
+ghost use mathlib.Core.Path.{_≡_};
+ghost use mathlib.Core.Logic.{_≢_};
+ghost use lib.ListN.{length};
+ghost use Rattle.field.specs.Field.{𝟎, _⊙_, inv, val};
+ghost use Rattle.series.specs.Shift.{cut};
+ghost use Rattle.series.specs.Value.{value, odd};
+ghost use Rattle.series.specs.Array.{bytes};
+ghost use Rattle.polynomial.specs.Polynomial.{poly};
+ghost use Rattle.settling.specs.Locator.{W};
+ghost use Rattle.settle.specs.CandidateLocated.{Walked};
+use field::Exponent;
+use field::Gf;
+use polynomial::COEFFICIENTS;
+
+// Coefficients of a locator of 24 changes.
+pub const TERMS: usize = 25;
+
+// Whether the walk met as many roots as it should; what was put forward at the positions that it went through.
+pub struct Located {
+    pub whole: bool,
+    pub pattern: [Gf; 255],
+}
+
+// The first k coefficients, those of even powers zero.
+fn odd_part(f: [Gf; COEFFICIENTS], k: usize) -> [u8; TERMS]
+    requires { ⌜ k ≤ 25 ⌝ }
+    ensures { λ r. ⌜ bytes r ≡ cut k (odd (poly f)) ⌝ }
+{
+    let mut out = [0u8; TERMS];
+    let mut i: usize = 1;
+    while i < k {
+        let g = f[i];
+        out[i] = g.0;
+        i = i + 2;
+    }
+    out
+}
+
+// Forney's formula at position p: one row of products serves both values.
+fn forney(p: usize, denominator: &[u8], numerator: &[u8]) -> Gf
+    requires { ⌜ p ≤ 255 ⌝ }
+    ensures { λ r. ⌜ val r ≡
+        W p ⊙ value (length (now (numerator .entry))) (bytes (now (numerator .entry))) (W p)
+        ⊙ inv (value (length (now (denominator .entry))) (bytes (now (denominator .entry))) (W p)) ⌝ }
+{
+    let w = Exponent(255 - p).power();
+    let row = kernel::product_row(w);
+    let top = kernel::value(&row, numerator);
+    let bottom = kernel::value(&row, denominator);
+    let scaled = kernel::product(w, top);
+    kernel::product(scaled, bottom.inverse())
+}
+
+// From position 0 on, until no root is missing, or the positions that are left are fewer than the roots that are.
+fn walk(locator: [Gf; COEFFICIENTS], numerator: &[u8], roots: usize, n: usize) -> Located
+    requires { ⌜ (roots ≤ 24) × (n ≤ 255) × (length (now numerator) ≤ roots + 1) ⌝ }
+    ensures { λ r. ⌜ Walked n (roots + 1) roots (poly locator) (bytes (now (numerator .entry))) (r .whole) (r .pattern) ⌝ }
+{
+    let k = roots + 1;
+    let values = crate::positions::values(locator, k);
+    let odds = odd_part(locator, k);
+    let mut pattern = [Gf::ZERO; 255];
+    let mut missing: usize = roots;
+    let mut p: usize = 0;
+    while 0 < missing {
+        if n - p < missing {
+            return Located {
+                whole: false,
+                pattern: pattern,
+            };
+        }
+        let v = Gf(values[p]);
+        if v.is_zero() {
+            pattern[p] = forney(p, &odds[..k], numerator);
+            missing = missing - 1;
+        }
+        p = p + 1;
+    }
+    Located {
+        whole: true,
+        pattern: pattern,
+    }
+}
+
+// The value of a word at w by products, for a word so short that a row of them would cost more.
+fn short_value(w: Gf, word: &[u8]) -> Gf
+    ensures { λ r. ⌜ val r ≡ value (length (now (word .entry))) (bytes (now (word .entry))) (val w) ⌝ }
+{
+    let mut v: u8 = 0;
+    let mut i: usize = word.len();
+    while i > 0 {
+        i -= 1;
+        v = kernel::multiply(w.0, v) ^ word[i];
+    }
+    Gf(v)
+}
+
+// A locator of two terms has its one root at W p if its second coefficient is α^p times its first one: logarithms give p. There the odd part is W p
+// times the second coefficient, so that the change is the numerator's value divided by that.
+fn locate_one(locator: [Gf; COEFFICIENTS], numerator: &[u8], n: usize) -> Located
+    requires { ⌜ (n ≤ 255) × (length (now numerator) ≤ 2) × (poly locator 0 ≢ 𝟎) × (poly locator 1 ≢ 𝟎) ⌝ }
+    ensures { λ r. ⌜ Walked n 2 1 (poly locator) (bytes (now (numerator .entry))) (r .whole) (r .pattern) ⌝ }
+{
+    let a = locator[0];
+    let b = locator[1];
+    let i = a.log();
+    let j = b.log();
+    let p = (j.0 + (255 - i.0)) % 255;
+    let mut pattern = [Gf::ZERO; 255];
+    if n <= p {
+        return Located {
+            whole: false,
+            pattern: pattern,
+        };
+    }
+    let top = short_value(Exponent(255 - p).power(), numerator);
+    pattern[p] = kernel::product(top, b.inverse());
+    Located {
+        whole: true,
+        pattern: pattern,
+    }
+}
+
+// One root at once, more by the walk.
+pub fn locate(locator: [Gf; COEFFICIENTS], numerator: &[u8], roots: usize, n: usize) -> Located
+    requires { ⌜ (roots ≤ 24) × (n ≤ 255) × (length (now numerator) ≤ roots + 1) ⌝ }
+    ensures { λ r. ⌜ Walked n (roots + 1) roots (poly locator) (bytes (now (numerator .entry))) (r .whole) (r .pattern) ⌝ }
+{
+    if roots == 1 {
+        let a = locator[0];
+        let b = locator[1];
+        if !a.is_zero() {
+            if !b.is_zero() {
+                return locate_one(locator, numerator, n);
+            }
+        }
+    }
+    walk(locator, numerator, roots, n)
+}

@@ -1,0 +1,125 @@
+// The test that every pattern is put to, whoever puts it forward.
+ghost use Prim.Native.Nat.{suc, _+_, _≤_, _<_, _%_};
+ghost use mathlib.Core.Path.{_≡_};
+ghost use mathlib.Core.Logic.{_≢_, ite};
+ghost use lib.ListN.{length};
+ghost use Rattle.field.specs.Field.{𝟎, _≟_, pow, val};
+ghost use Rattle.series.specs.Series.{K, _⊞_, _⊠_};
+ghost use Rattle.series.specs.Shift.{cut};
+ghost use Rattle.series.specs.Array.{values, bytes};
+ghost use Rattle.series.specs.Decide.{holds};
+ghost use Rattle.series.specs.Word.{weight};
+ghost use Rattle.polynomial.specs.Polynomial.{row as Row};
+ghost use Rattle.code.specs.Word.{root, syndrome};
+ghost use Rattle.settling.specs.Definition.{explains?};
+ghost use Rattle.settle.specs.Effect.{Powers, same?};
+use field::Gf;
+use polynomial::SYNDROMES;
+
+// Whether a pattern explains a row of syndromes, and how many symbols it changes.
+pub struct Tested {
+    pub explains: bool,
+    pub count: usize,
+}
+
+// How many symbols a pattern changes, and its first syndromes.
+struct Effect {
+    count: usize,
+    syndromes: [u8; SYNDROMES],
+}
+
+// The sum of two exponents, modulo 255.
+fn exponent(e: usize, p: usize) -> usize
+    requires { ⌜ (e < 255) × (p < 255) ⌝ }
+    ensures { λ r. ⌜ r ≡ (e + p) % 255 ⌝ }
+{
+    let s = e + p;
+    if s < 255 {
+        return s;
+    }
+    s - 255
+}
+
+// The first m syndromes of a change y, which is not zero, at position p are added: each is a power of α, and its exponent p more than the one before,
+// so that no lookup waits for another.
+fn add_change(power: &[u8; 256], p: usize, y: Gf, m: usize, to: &mut [u8])
+    requires { ⌜ Powers (now power) × (p < 255) × (val y ≢ 𝟎) × (m ≤ length (now to)) ⌝ }
+    ensures { λ _. ⌜ bytes (now (to .exit)) ≡ bytes (now (to .entry)) ⊞ K (val y) ⊠ cut m (λ j. pow (root j) p) ⌝ }
+{
+    let log = y.log();
+    let mut e = exponent(log.0, p);
+    let mut j: usize = 0;
+    while j < m {
+        to[j] = to[j] ^ power[e];
+        e = exponent(e, p);
+        j = j + 1;
+    }
+}
+
+// The same, if it is a change, with the count of changes.
+fn count_change(power: &[u8; 256], count: usize, p: usize, y: Gf, m: usize, to: &mut [u8]) -> usize
+    requires { ⌜ Powers (now power) × (count < 255) × (p < 255) × (m ≤ length (now to)) ⌝ }
+    ensures { λ r. ⌜ (r ≡ ite (val y ≟ 𝟎) count (suc count)) ×
+        (bytes (now (to .exit)) ≡ bytes (now (to .entry)) ⊞ K (val y) ⊠ cut m (λ j. pow (root j) p)) ⌝ }
+{
+    if y.is_zero() {
+        return count;
+    }
+    add_change(power, p, y, m, to);
+    count + 1
+}
+
+// Of the symbols below n, and m syndromes.
+fn effect_of(pattern: [Gf; 255], n: usize, m: usize) -> Effect
+    requires { ⌜ (n ≤ 255) × (m ≤ 48) ⌝ }
+    ensures { λ r. ⌜ (r .count ≡ weight n (values pattern)) × (bytes (r .syndromes) ≡ cut m (syndrome n (values pattern))) ⌝ }
+{
+    let power = field::powers();
+    let mut syndromes = [0u8; SYNDROMES];
+    let mut count: usize = 0;
+    let mut p: usize = 0;
+    while p < n {
+        count = count_change(&power, count, p, pattern[p], m, &mut syndromes);
+        p = p + 1;
+    }
+    Effect {
+        count: count,
+        syndromes: syndromes,
+    }
+}
+
+// Whether the first m entries are the same.
+fn agree(l: [u8; SYNDROMES], row: [Gf; SYNDROMES], m: usize) -> bool
+    requires { ⌜ m ≤ 48 ⌝ }
+    ensures { λ r. ⌜ r ≡ holds (same? m (bytes l) (Row row)) ⌝ }
+{
+    let mut i: usize = 0;
+    while i < m {
+        let g = row[i];
+        if l[i] != g.0 {
+            return false;
+        }
+        i = i + 1;
+    }
+    true
+}
+
+pub fn test(pattern: [Gf; 255], row: [Gf; SYNDROMES], n: usize, t: usize) -> Tested
+    requires { ⌜ (n ≤ 255) × (t ≤ 24) ⌝ }
+    ensures { λ r. ⌜ (r .count ≡ weight n (values pattern)) × (r .explains ≡ holds (explains? t n (Row row) (values pattern))) ⌝ }
+{
+    let m = t + t;
+    let effect = effect_of(pattern, n, m);
+    let syndromes = effect.syndromes;
+    let count = effect.count;
+    if t < count {
+        return Tested {
+            explains: false,
+            count: count,
+        };
+    }
+    Tested {
+        explains: agree(syndromes, row, m),
+        count: count,
+    }
+}

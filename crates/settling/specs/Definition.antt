@@ -1,0 +1,40 @@
+-- What settles a subword: document 01, "Staged decoding". No algorithm is mentioned here.
+-- A pattern of changes is a word: a series of which the first n symbols are read. Of a subword's syndromes the first 2t are read.
+--
+--   Within t n e       the pattern e is within the capability t
+--   Explains t n s e   it is, and its syndromes are those of s
+--   settle t n s       the pattern that explains s; none if there is none
+use Prim.Native.Nat.{ℕ, _*_, _≤_, _<_}
+use mathlib.Core.Path.{_≡_}
+use mathlib.Core.Logic.{Dec·and, Dec·of-iff}
+use mathlib.Core.List.{List}
+use mathlib.Core.Option.{Option}
+use native.Mathlib.Decide.{decLe}
+use Rattle.field.specs.Field.{F, _≟_}
+use Rattle.series.specs.Series.{Series}
+use Rattle.series.specs.Decide.{all?}
+use Rattle.series.specs.Word.{entry, weight}
+use Rattle.series.specs.First.{first}
+use Rattle.code.specs.Word.{syndrome}
+
+-- "of at most t_r nonzero changes at places below n"
+abbrev pub Within : ℕ → ℕ → Series → Type 0
+Within t n e = weight n e ≤ t
+
+-- "whose S_j equal the strip's", "stage r looks at j < 2×t_r"
+pub record Explains (t n : ℕ) (s e : Series) : Type 0 where
+  pub within : Within t n e
+  pub syndromes : (j : ℕ) → j < 2 * t → syndrome n e j ≡ s j
+
+unfoldable pub explains? : (t n : ℕ) (s e : Series) → Dec (Explains t n s e)
+explains? t n s e = Dec·of-iff (to, from) (Dec·and (decLe (weight n e) t) (all? (2 * t) (λ j. syndrome n e j ≟ s j)))
+  where
+    to : Within t n e × ((j : ℕ) → j < 2 * t → syndrome n e j ≡ s j) → Explains t n s e
+    to (w, h) = record { within = w; syndromes = h }
+
+    from : Explains t n s e → Within t n e × ((j : ℕ) → j < 2 * t → syndrome n e j ≡ s j)
+    from x = (x .within, x .syndromes)
+
+-- "A strip is settled at stage r by the pattern .. It fails that stage exactly if there is no such pattern."
+unfoldable pub settle : ℕ → ℕ → Series → Option (List F)
+settle t n s = first n (λ w. explains? t n s (entry w))

@@ -1,0 +1,128 @@
+-- What an accepted outcome means.
+--
+-- Proved: the block is a codeword (accepted-codeword), and as received past its end (accepted-past); the count of a line is the number of positions
+-- where received and decoded symbol differ (accepted-count), and the changed symbols are the sum of these (accepted-changed); the last stage is at
+-- most v (accepted-last). The rounds of a corrected subword, joined, are syndromes that are settled, at the stage of its line, by what the decoded
+-- subword differs by from the received one (accepted-pattern); a clean one has none (clean-rounds). Lines that are no subword's are clean
+-- (accepted-line-past).
+use Prim.Native.Nat.{ℕ, zero, suc, _*_, _≤_, _<_}
+use mathlib.Core.Path.{_≡_, refl, sym, ap, _∙_}
+use mathlib.Core.List.{[]}
+use mathlib.Core.Option.{none, some, Option·getD}
+use native.Mathlib.Omega.{arith}
+use Rattle.series.specs.Series.{Series, _⊞_}
+use Rattle.series.specs.Word.{entry, word, weight, entry-word}
+use Rattle.key_equation.specs.Run.{joined}
+use Rattle.profile.specs.declared.Profile.{Profile}
+use Rattle.profile.specs.Definition.{capability, block-size}
+use Rattle.profile.specs.Valid.{Valid}
+use Rattle.code.specs.Definition.{subword, Codeword}
+use Rattle.settling.specs.Definition.{settle}
+use Rattle.settling.specs.Settle.{settle-one, settle-cong}
+use Rattle.staged_decoding.specs.Definition.{total, clean, corrected, count-of, stage-of, Progress, start, line-at, line-rounds}
+use Rattle.staged_decoding.specs.Definition.{extend, Report, report, accepted, decode, differences}
+use Rattle.staged_decoding.specs.Count.{total-cong}
+use Rattle.staged_decoding.specs.Stage.{line-of-is, stage-past, stage-line-past}
+use Rattle.staged_decoding.specs.Rounds.{rounds-joined}
+use Rattle.staged_decoding.specs.Course.{before-stage, after-stage, Accepts, accepted-course}
+use Rattle.staged_decoding.specs.Differences.{differences-weight}
+use Rattle.staged_decoding.specs.Sound.{Settled, sound-after, line-there}
+
+pub accepted-codeword : (p : Profile) (y d : Series) (x : Report) → decode p y ≡ accepted d x → Codeword p d
+accepted-codeword p y d x e = accepted-course p y d x .0 e .code
+
+-- ---- what is no subword's
+
+before-past : (p : Profile) (y : Series) (r a : ℕ) → block-size p ≤ a → before-stage p y r .block a ≡ y a
+unfolding before-stage start extend
+before-past p y zero a h = refl
+before-past p y (suc r) a h = stage-past p r (before-stage p y r) a h ∙ before-past p y r a h
+
+before-line-past : (p : Profile) (y : Series) (r i : ℕ) → p .subwords ≤ i → before-stage p y r .line i ≡ none
+unfolding before-stage start extend
+before-line-past p y zero i h = refl
+before-line-past p y (suc r) i h = stage-line-past p r (before-stage p y r) i h ∙ before-line-past p y r i h
+
+-- ---- the report
+
+module _ (p : Profile) (y d : Series) (x : Report) (e : decode p y ≡ accepted d x) where
+  abbrev a : Accepts p y d x
+  a = accepted-course p y d x .0 e
+
+  abbrev g : Progress
+  g = after-stage p y (a .last)
+
+  line-is : (i : ℕ) → x .line i ≡ line-at g i
+  unfolding report
+  line-is i = ap (λ (x : Report). x .line i) (a .says)
+
+  pub accepted-past : (k : ℕ) → block-size p ≤ k → d k ≡ y k
+  accepted-past k h =
+      ap (λ (s : Series). s k) (a .block) ∙ stage-past p (a .last) (before-stage p y (a .last)) k h ∙ before-past p y (a .last) k h
+
+  pub accepted-line-past : (i : ℕ) → p .subwords ≤ i → x .line i ≡ clean
+  accepted-line-past i h =
+      line-is i
+      ∙ ap (λ o. Option·getD o clean) (stage-line-past p (a .last) (before-stage p y (a .last)) i h ∙ before-line-past p y (a .last) i h)
+
+  pub clean-rounds : (i : ℕ) → x .line i ≡ clean → x .rounds i ≡ []
+  unfolding report
+  clean-rounds i f =
+      ap (λ (x : Report). x .rounds i) (a .says) ∙ ap (line-rounds p (g .row i)) (sym (line-is i) ∙ f)
+
+  settled : (i : ℕ) → i < p .subwords → Settled p y (suc (a .last)) g i (x .line i)
+  settled i h =
+      let (l, f) = line-there p g (a .over .none-left) i h in
+      let s : Settled p y (suc (a .last)) g i l = rw f at (sound-after p y (a .last) i h) in
+      rw (line-is i ∙ ap (λ o. Option·getD o clean) f) s
+
+  abbrev changes : ℕ → ℕ
+  changes i = weight (p .length) (subword (p .length) (y ⊞ g .block) i)
+
+  changes-are : (i : ℕ) → changes i ≡ differences p y d i
+  changes-are i = sym (differences-weight p y d i ∙ ap (λ s. weight (p .length) (subword (p .length) (y ⊞ s) i)) (a .block))
+
+  pub accepted-count : (i : ℕ) → i < p .subwords → count-of (x .line i) ≡ differences p y d i
+  accepted-count i h = ap count-of (settled i h .line-is) ∙ line-of-is (settled i h .stage) (changes i) .0 ∙ changes-are i
+
+  pub accepted-changed : x .changed ≡ total (p .subwords) (differences p y d)
+  unfolding report
+  accepted-changed =
+      ap (λ (x : Report). x .changed) (a .says)
+      ∙ total-cong (p .subwords) _ _ (λ i h. ap count-of (sym (line-is i)) ∙ accepted-count i h)
+
+  last-is : x .last ≡ a .last
+  unfolding report
+  last-is = ap (λ (x : Report). x .last) (a .says)
+
+  pub accepted-last : x .last ≤ p .nested
+  accepted-last = omega (arith, last-is, a .over .low)
+
+  pub accepted-pattern : Valid p → (i k s : ℕ) → i < p .subwords → x .line i ≡ corrected k s
+      → (s ≤ x .last) × (settle (capability p s) (p .length) (entry (joined (x .rounds i))) ≡ some (word (p .length) (subword (p .length) (y ⊞ d) i)))
+  unfolding report
+  accepted-pattern ok i k s h f =
+      (omega (arith, at-stage, last-is, x-settled .passed), ap (settle (capability p s) (p .length)) rounds ∙ agree ∙ settles)
+    where
+      x-settled : Settled p y (suc (a .last)) g i (x .line i)
+      x-settled = settled i h
+
+      at-stage : x-settled .stage ≡ s
+      at-stage = sym (line-of-is (x-settled .stage) (changes i) .1) ∙ ap stage-of (sym (x-settled .line-is) ∙ f)
+
+      s-low : s ≤ p .nested
+      s-low = omega (arith, at-stage, x-settled .passed, a .over .low)
+
+      rounds : entry (joined (x .rounds i)) ≡ entry (word (2 * capability p s) (g .row i))
+      rounds =
+          ap (λ (x : Report). entry (joined (x .rounds i))) (a .says)
+          ∙ ap (λ l. entry (joined (line-rounds p (g .row i) l))) (sym (line-is i) ∙ f)
+          ∙ ap entry (rounds-joined p ok (g .row i) s s-low)
+
+      agree : settle (capability p s) (p .length) (entry (word (2 * capability p s) (g .row i))) ≡ settle (capability p s) (p .length) (g .row i)
+      agree = settle-cong (capability p s) (p .length) _ _ (λ j l. entry-word _ (g .row i) j l)
+
+      settles : settle (capability p s) (p .length) (g .row i) ≡ some (word (p .length) (subword (p .length) (y ⊞ d) i))
+      settles =
+          settle-one (capability p s) (p .length) (g .row i) _ (ok .length .1) (rw at-stage at (x-settled .explained))
+          ∙ ap (λ b. some (word (p .length) (subword (p .length) (y ⊞ b) i))) (sym (a .block))

@@ -1,0 +1,235 @@
+-- Staged decoding as a function of the profile and the received block: document 01, "Staged decoding". No solver is mentioned here.
+-- A block is a series of which the first m × n symbols are read; the syndromes of a subword are a series, its row in the table, zero where not known.
+--
+--   count n b            how many numbers below n pass the test b; nth n b w: number w of them; total n f: f 0 + .. + f (n − 1)
+--   Line                 what the report says of a subword: clean, or corrected (document 01's mended) with its count and stage
+--   Progress             the block as corrected so far, the lines of the subwords that are settled, the rows of syndromes
+--   start p y            the progress before stage 0, y being received
+--   found p r g i        the pattern that settles subword i at stage r; none if there is none, or it was settled before
+--   step p r i g         stage r for subword i alone; stage p r g: for all of them
+--   open? g i            whether subword i is not settled; unsettled p g: how many are not
+--   fresh p g i j        S_j of the unsettled subword i from the nested words
+--   round p r g          round r + 1: the rows of the unsettled subwords go on to 2 t_(r+1)
+--   stages p left r g    how decoding ends, from stage r on, with left = v − r
+--   rounds-of p s r      the stages 0 to r, taken as rounds of the row s
+--   Report, Outcome      what a decoder answers
+--   decode p y           what the received block y is decoded to
+--   differences p s t i  at how many positions subword i differs in the blocks s and t
+use Prim.Native.Nat.{ℕ, zero, suc, _+_, _-_, _*_}
+use mathlib.Core.Bool.{Bool, true, false, not, cond, _&&_}
+use mathlib.Core.Logic.{ite}
+use mathlib.Core.List.{List, [], _∷_, _++_}
+use mathlib.Core.Option.{Option, none, some, Option·getD}
+use native.Mathlib.Decide.{ℕ-discrete}
+use lib.Dec.{leb, ltb, eqb}
+use Rattle.field.specs.Field.{F, α, _≟_, pow}
+use Rattle.series.specs.Series.{Series, _⊞_, _⊠_}
+use Rattle.series.specs.Shift.{zpow, drop}
+use Rattle.series.specs.Interpolation.{solution}
+use Rattle.series.specs.Decide.{holds}
+use Rattle.series.specs.Word.{entry, word, weight}
+use Rattle.profile.specs.declared.Profile.{Profile}
+use Rattle.profile.specs.Definition.{capability}
+use Rattle.code.specs.Word.{syndrome}
+use Rattle.code.specs.Definition.{subword, nested}
+use Rattle.code.specs.Encoding.{codeword?}
+use Rattle.code.specs.Check.{received}
+use Rattle.settling.specs.Definition.{settle}
+
+-- ---- numbers and functions
+
+unfoldable pub count : ℕ → (ℕ → Bool) → ℕ
+count zero b = 0
+count (suc n) b = cond (b n) (suc (count n b)) (count n b)
+
+-- from the least on
+unfoldable pub nth : ℕ → (ℕ → Bool) → ℕ → ℕ
+nth zero b w = 0
+nth (suc n) b w = cond (ltb w (count n b)) (nth n b w) n
+
+unfoldable pub total : ℕ → (ℕ → ℕ) → ℕ
+total zero f = 0
+total (suc n) f = total n f + f n
+
+-- f with x at i
+unfoldable pub put : {A : Type 0} → ℕ → A → (ℕ → A) → ℕ → A
+put i x f k = ite (ℕ-discrete k i) x (f k)
+
+-- f 0, then f 1, .., then f (n − 1)
+unfoldable pub each : {A : Type 0} → ℕ → (ℕ → A → A) → A → A
+each zero f a = a
+each (suc n) f a = f n (each n f a)
+
+-- ---- lines
+
+pub data Line : Type 0 where
+  clean : Line
+  corrected : (count stage : ℕ) → Line
+
+-- settled at stage r by k changes: "Clean is the empty pattern at stage 0."
+abbrev pub line-of : ℕ → ℕ → Line
+line-of r k = cond (eqb r 0 && eqb k 0) clean (corrected k r)
+
+abbrev pub count-of : Line → ℕ
+count-of clean = 0
+count-of (corrected k r) = k
+
+abbrev pub stage-of : Line → ℕ
+stage-of clean = 0
+stage-of (corrected k r) = r
+
+-- ---- progress
+
+-- a subword that is not settled has no line yet
+pub record Progress : Type 0 where
+  pub block : Series
+  pub line : ℕ → Option Line
+  pub row : ℕ → Series
+
+-- "For j < 2×t0, S_j of a strip is its received value at α^(j+1)"
+unfoldable pub start : Profile → Series → Progress
+start p y = record { block = y; line = λ i. none; row = received p y (2 * capability p 0) }
+
+abbrev pub unsettled-line : Option Line → Bool
+unsettled-line none = true
+unsettled-line (some l) = false
+
+abbrev pub open? : Progress → ℕ → Bool
+open? g i = unsettled-line (g .line i)
+
+unfoldable pub unsettled : Profile → Progress → ℕ
+unsettled p g = count (p .subwords) (open? g)
+
+-- ---- a stage
+
+-- the block s with the pattern e added to subword i
+unfoldable pub add : ℕ → ℕ → Series → Series → Series
+add n i e s = s ⊞ zpow (i * n) ⊠ e
+
+-- "A strip is settled at stage r by the pattern of at most t_r nonzero changes at places below n whose S_j equal the strip's .. It fails that stage
+-- exactly if there is no such pattern."
+unfoldable pub found : Profile → ℕ → Progress → ℕ → Option (List F)
+found p r g i = cond (open? g i) (settle (capability p r) (p .length) (g .row i)) none
+
+abbrev pub correct : Profile → ℕ → ℕ → Option (List F) → Progress → Progress
+correct p r i none g = g
+correct p r i (some w) g = record {
+  block = add (p .length) i (entry w) (g .block);
+  line = put i (some (line-of r (weight (p .length) (entry w)))) (g .line);
+  row = g .row;
+}
+
+unfoldable pub step : Profile → ℕ → ℕ → Progress → Progress
+step p r i g = correct p r i (found p r g i) g
+
+-- one subword after the other: what is found for one depends on its own line and row
+unfoldable pub stage : Profile → ℕ → Progress → Progress
+stage p r g = each (p .subwords) (step p r) g
+
+-- ---- a round
+
+-- "for each j .. the S_j of the b strips (numbers i_0, i_1, ..) solve: sum over w of α^(i_w × l) × S_j of strip i_w equals the nested sum l's value
+-- at α^(j+1), for l < b, in the block as mended so far"
+unfoldable pub node : Profile → Progress → ℕ → F
+node p g w = pow α (nth (p .subwords) (open? g) w)
+
+unfoldable pub system : Profile → Progress → ℕ → ℕ → F
+system p g j = solution (unsettled p g) (node p g) (λ l. syndrome (p .length) (nested p (g .block) l) j)
+
+-- subword i is i_w, w being how many unsettled ones stand before it
+unfoldable pub fresh : Profile → Progress → ℕ → Series
+fresh p g i j = system p g j (count i (open? g))
+
+-- f with g's coefficients from a to b − 1
+unfoldable pub window : ℕ → ℕ → Series → Series → Series
+window a b g f j = cond (leb a j && ltb j b) (g j) (f j)
+
+-- the rows of the unsettled subwords with S_a to S_(b−1)
+unfoldable pub extend : Profile → ℕ → ℕ → Progress → Progress
+extend p a b g = record {
+  block = g .block;
+  line = g .line;
+  row = λ i. cond (ltb i (p .subwords) && open? g i) (window a b (fresh p g i) (g .row i)) (g .row i);
+}
+
+-- "for each j from 2×t_r to 2×t_(r+1)−1"
+abbrev pub round : Profile → ℕ → Progress → Progress
+round p r g = extend p (2 * capability p r) (2 * capability p (suc r)) g
+
+-- ---- stages
+
+-- every subword is settled after stage r, or decoding ended after it
+pub data Ending : Type 0 where
+  settled : (r : ℕ) → Progress → Ending
+  stopped : (r : ℕ) → Ending
+
+-- "After stage r let b strips be unsettled. If b is 0, decoding is over. If b exceeds v−r, the answer is 8 with stage r. Else round r+1 follows"
+abbrev pub after : Profile → ℕ → ℕ → Progress → Ending → Ending
+after p left r g later = cond (eqb (unsettled p g) 0) (settled r g) (cond (ltb left (unsettled p g)) (stopped r) later)
+
+-- with left = 0 nothing follows
+unfoldable pub stages : Profile → ℕ → ℕ → Progress → Ending
+stages p zero r g = after p 0 r (stage p r g) (stopped r)
+stages p (suc left) r g = after p (suc left) r (stage p r g) (stages p left (suc r) (round p r (stage p r g)))
+
+-- ---- the report
+
+-- the new syndromes of stage r, from the row s
+abbrev pub round-of : Profile → Series → ℕ → List F
+round-of p s zero = word (2 * capability p 0) s
+round-of p s (suc r) = word (2 * capability p (suc r) - 2 * capability p r) (drop (2 * capability p r) s)
+
+unfoldable pub rounds-of : Profile → Series → ℕ → List (List F)
+rounds-of p s zero = round-of p s 0 ∷ []
+rounds-of p s (suc r) = rounds-of p s r ++ (round-of p s (suc r) ∷ [])
+
+-- "for each mended strip, the stages it went through taken as rounds"; none for a clean one
+abbrev pub line-rounds : Profile → Series → Line → List (List F)
+line-rounds p s clean = []
+line-rounds p s (corrected k r) = rounds-of p s r
+
+-- `rounds` says which state a solver's report holds: its last over these rounds
+pub record Report : Type 0 where
+  pub line : ℕ → Line
+  pub rounds : ℕ → List (List F)
+  pub changed : ℕ
+  pub last : ℕ
+
+-- lines that are no subword's are clean
+abbrev pub line-at : Progress → ℕ → Line
+line-at g i = Option·getD (g .line i) clean
+
+unfoldable pub report : Profile → ℕ → Progress → Report
+report p r g = record {
+  line = line-at g;
+  rounds = λ i. line-rounds p (g .row i) (line-at g i);
+  changed = total (p .subwords) (λ i. count-of (line-at g i));
+  last = r;
+}
+
+-- ---- the outcome
+
+pub data Outcome : Type 0 where
+  accepted : Series → Report → Outcome
+  failed : (stage : ℕ) → Outcome
+  foreign : Outcome
+
+-- document 01's numbers; 0 says that every question was answered by yes
+abbrev pub outcome-number : Outcome → ℕ
+outcome-number (accepted s x) = 0
+outcome-number (failed r) = 8
+outcome-number foreign = 9
+
+-- "Does staged decoding settle every strip? .. Is the settled block a codeword?"
+abbrev pub judged : Profile → Ending → Outcome
+judged p (stopped r) = failed r
+judged p (settled r g) = cond (holds (codeword? p (g .block))) (accepted (g .block) (report p r g)) foreign
+
+unfoldable pub decode : Profile → Series → Outcome
+decode p y = judged p (stages p (p .nested) 0 (start p y))
+
+-- ---- what counts mean
+
+-- "the number of its places where received and mended byte differ"
+unfoldable pub differences : Profile → Series → Series → ℕ → ℕ
+differences p s t i = count (p .length) (λ q. not (holds (subword (p .length) s i q ≟ subword (p .length) t i q)))

@@ -1,0 +1,26 @@
+-- Still pending, or settled and corrected.
+use Rattle.profile.specs.Laws.{unless, meets}
+use Rattle.stages.specs.SubwordTurn.{took-none, took-some}
+use borrow.Author.Needs.{needs}
+use Rattle.stages.proofs.subword.take.Statement.{statement}
+use Rattle.stages.proofs.subword.take.Tie as tie
+
+returns : tie.Need-returns
+returns c = λ f S o. took-none _ f _ _ S _ (c .before .before .before .before .before .args .a) o (unless _ (c .if1 .taken)) _
+
+correct-requires : tie.Need-correct-requires
+correct-requires c κs = search needs
+
+verdict-of-requires : tie.Need-verdict-of-requires
+verdict-of-requires c κs = search needs
+
+same-length : tie.Need-same-length
+same-length c = search needs
+
+returns-2 : tie.Need-returns-2
+returns-2 c =
+    let given = c .before .before .before .before .before .before .before .before .before .before .before in
+    λ f S o. took-some _ f _ _ S _ (given .args .a) o _ (c .verdict-of .result) (meets _ (c .before .before .before .before .before .before .if1 .left)) (c .before .before .before .correct .ensures) (c .verdict-of .ensures)
+
+pub take-spec : {M : Type 1} → statement M
+take-spec = tie.close (tie.spec returns correct-requires verdict-of-requires same-length returns-2)

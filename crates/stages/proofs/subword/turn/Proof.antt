@@ -1,0 +1,58 @@
+-- Settled already, clean, or attempted.
+use mathlib.Core.Path.{refl, sym, _∙_}
+use mathlib.Core.Bool.{true≢false}
+use Rattle.polynomial.specs.SyndromesZero.{zero-row}
+use Rattle.profile.specs.Laws.{unless, meets}
+use Rattle.stages.specs.SubwordTurn.{clean-yes, took-clean, offered}
+use borrow.Author.Needs.{needs}
+use Rattle.stages.proofs.subword.turn.Statement.{statement}
+use Rattle.stages.proofs.subword.turn.Tie as tie
+
+returns : tie.Need-returns
+returns c =
+    let settled = unless _ (c .if1 .taken) in
+    (λ _. (refl, refl, refl), λ waits. absurd (true≢false (sym waits ∙ settled)))
+
+is-clean-requires : tie.Need-is-clean-requires
+is-clean-requires c κs = search needs
+
+returns-2 : tie.Need-returns-2
+returns-2 c =
+    let given = c .before .before .before .before .before in
+    let waits = meets _ (c .before .before .before .if1 .left) in
+    let (first, zero) = clean-yes _ _ (sym (c .before .is-clean .ensures) ∙ c .if2 .taken) in (
+      λ settled. absurd (true≢false (sym waits ∙ settled)),
+      λ _ f ready. took-clean _ f _ _ _ _ _ (given .args .line .solver) (given .pre .0 .valid .length .1) first (zero-row _ zero) ready,
+    )
+
+attempt-requires : tie.Need-attempt-requires
+attempt-requires c κs = let given = c .before .before .before .before .before in (given .pre .0 .valid, given .pre .2)
+
+take-requires : tie.Need-take-requires
+take-requires c κs = search needs
+
+same-length : tie.Need-same-length
+same-length c = search needs
+
+returns-3 : tie.Need-returns-3
+returns-3 c =
+    let given = c .before .before .before .before .before .before .before .before .before .before in
+    let waits = meets _ (c .before .before .before .before .before .before .before .before .if1 .left) in
+    let attempt = c .before .before .before .before .attempt in
+    let dirty = sym (c .before .before .before .before .before .before .is-clean .ensures) ∙ c .before .before .before .before .before .if2 .left in (
+      λ settled. absurd (true≢false (sym waits ∙ settled)),
+      λ _ f ready. rw (attempt .ensures .1 .0 f ready) at
+          (c .before .before .take .ensures f _ (offered _ f _ (given .args .row) _ (attempt .result) dirty ready (attempt .ensures .0) (attempt .ensures .1 .1 f ready))),
+    )
+
+pub turn-spec : {M : Type 1} → statement M
+turn-spec =
+    tie.close
+    (tie.spec
+    returns
+    is-clean-requires
+    returns-2
+    attempt-requires
+    take-requires
+    same-length
+    returns-3)

@@ -1,0 +1,67 @@
+-- The solver of a subword from stage to stage.
+--
+-- Proved, for a valid profile: a solver at its start is ready for stage 0 (ready-start), and one at the end of stage r for stage r + 1
+-- (ready-next); one that is ready, taken through the syndromes that the stage adds, is at the end of the stage (ready-advance), and what it has
+-- found there is what settles the subword (kept).
+use Prim.Native.Nat.{ℕ, zero, suc, _-_, _*_, _≤_, _<_}
+use mathlib.Core.Path.{_≡_, refl, ap, subst}
+use mathlib.Core.Logic.{_≢_}
+use native.Mathlib.Omega.{arith}
+use Rattle.series.specs.Series.{Series}
+use Rattle.series.specs.Degree.{below}
+use Rattle.key_equation.specs.Run.{joined, events, after}
+use Rattle.key_equation.specs.Ahead.{Agree}
+use Rattle.key_equation.specs.Ends.{finish}
+use Rattle.profile.specs.declared.Profile.{Profile}
+use Rattle.profile.specs.Definition.{capability}
+use Rattle.profile.specs.Valid.{Valid}
+use Rattle.solver.specs.declared.Form.{Form}
+use Rattle.solver.specs.declared.Solver.{Solver}
+use Rattle.solver.specs.Solver.{form-of, Is}
+use Rattle.settling.specs.Definition.{settle}
+use Rattle.settle.specs.declared.Settled.{Settled}
+use Rattle.settle.specs.Answer.{answer, Sound}
+use Rattle.staged_decoding.specs.Definition.{rounds-of}
+use Rattle.staged_decoding.specs.Rounds.{rounds-joined, rounds-cong}
+use Rattle.solver.specs.ContinuationDefinition.{Ended, Advanced, ended-start}
+use Rattle.solver.specs.ContinuationStages.{stage-first, stage-next}
+use Rattle.stages.specs.AttemptDefinition.{known, Ready, Tried}
+
+pub ready-start : (p : Profile) (f : Form) (S : Series) (s : Solver) → Is f 0 s (form-of f .start) → below (2 * capability p 0) S → Ready p f 0 S s
+ready-start p f S s is past = record { ended = ended-start f s is; past = past }
+
+module _ (p : Profile) (ok : Valid p) (f : Form) (S : Series) (s : Solver) where
+  -- T is the row as it was
+  pub ready-next : (r : ℕ) (T : Series) → r < p .nested → Ended f (rounds-of p T r) s → Agree (2 * capability p r) T S
+      → below (2 * capability p (suc r)) S → Ready p f (suc r) S s
+  ready-next r T h ended agree past = record {
+    ended = subst (λ rounds. Ended f rounds s) (rounds-cong p ok T S r (omega arith) agree) ended;
+    past = past;
+  }
+
+  pub ready-advance : (r : ℕ) (q : Solver) → r ≤ p .nested → Advanced (known p r) (2 * capability p r) S s q → Ready p f r S s
+      → Ended f (rounds-of p S r) q
+  unfolding Ended finish events after joined
+  ready-advance zero q h advanced ready = stage-first p ok f S s q (ready .past) (ready .ended) advanced
+  ready-advance (suc r) q h advanced ready = stage-next p ok f S s q r S h (ready .past) (λ j l. refl) (ready .ended) advanced
+
+-- ---- what `attempt` promises, from what its parts promise
+
+module _ (p : Profile) (r : ℕ) where
+  pub known-first : r ≡ 0 → known p r ≡ 0
+  known-first e = rw e refl
+
+  pub known-next : r ≢ 0 → known p r ≡ 2 * capability p (r - 1)
+  known-next h = let e : r ≡ suc (r - 1) = omega (arith, h) in ap (known p) e
+
+module _ (p : Profile) (ok : Valid p) (r : ℕ) (h : r ≤ p .nested) (S : Series) (s q : Solver) (a : Settled) where
+  pub kept : (u v t : ℕ) → u ≡ known p r → v ≡ 2 * capability p r → t ≡ capability p r → Advanced u v S s q → Tried t (p .length) S q a
+      → Sound (capability p r) (p .length) S a
+      × (((f : Form) → Ready p f r S s → answer (p .length) a ≡ settle (capability p r) (p .length) S)
+      × ((f : Form) → Ready p f r S s → Ended f (rounds-of p S r) q))
+  kept u v t eu ev et advanced tried =
+      let at : Tried (capability p r) (p .length) S q a = subst (λ t. Tried t (p .length) S q a) et tried in
+      (at .0, (λ f ready. at .1 f _ (end f ready) (rounds-joined p ok S r h), end))
+    where
+      end : (f : Form) → Ready p f r S s → Ended f (rounds-of p S r) q
+      end f = ready-advance p ok f S s r q h (subst (λ u. Advanced u (2 * capability p r) S s q) eu (subst (λ v. Advanced u v S s q) ev advanced))

@@ -1,0 +1,134 @@
+-- A stage of one subword.
+--
+-- Proved: a pattern added symbol by symbol (added); what verdicts say (clean-is, corrected-is); what becomes of a subword that no pattern settles
+-- (took-none), that one settles (took-some), and that is clean (took-clean); with no change at stage 0 the row is zero (no-change).
+use Prim.Native.Nat.{ℕ, _*_, _≤_, _<_}
+use mathlib.Core.Path.{_≡_, refl, sym, ap, _∙_, fun-ext, subst}
+use mathlib.Core.Logic.{_≢_, by-cases}
+use mathlib.Core.Bool.{Bool, true, false, _&&_, true≢false}
+use mathlib.Core.List.{List}
+use mathlib.Core.Option.{some}
+use native.Mathlib.Decide.{decLt, ℕ-discrete}
+use native.Mathlib.Omega.{arith}
+use lib.Dec.{eqb}
+use borrow.Author.Tests.{eqb-true, eq-eqb, ne-eqb}
+use Rattle.field.specs.declared.Gf.{Gf}
+use Rattle.field.specs.Field.{𝟎}
+use Rattle.series.specs.Series.{Series, O, O-at, _⊞_, _⊠_, ⊠-ring}
+use Rattle.series.specs.Shift.{zpow, cut}
+use Rattle.series.specs.Degree.{below, below-O, below-cut-eq}
+use Rattle.series.specs.Array.{values}
+use Rattle.series.specs.Value.{value-zero}
+use Rattle.series.specs.Word.{entry, word, weight, word-cut, weight-word, weight-O, zero-weight}
+use Rattle.series.specs.Decide.{holds}
+use Rattle.polynomial.specs.Polynomial.{row}
+use Rattle.polynomial.specs.SyndromesZero.{zero?, zero-not}
+use Rattle.profile.specs.declared.Profile.{Profile}
+use Rattle.profile.specs.Definition.{capability}
+use Rattle.solver.specs.declared.Form.{Form}
+use Rattle.solver.specs.declared.Solver.{Solver}
+use Rattle.code.specs.Word.{root}
+use Rattle.code.specs.Systematic.{syndrome-is}
+use Rattle.settling.specs.Definition.{Explains, settle}
+use Rattle.settling.specs.Settle.{settle-zero}
+use Rattle.settle.specs.Answer.{answer, Sound}
+use Rattle.solver.specs.ContinuationDefinition.{Ended}
+use Rattle.staged_decoding.specs.Definition.{add, line-of, line-rounds, rounds-of}
+use Rattle.staged_decoding.specs.Stage.{line-of-corrected, line-of-first}
+use Rattle.stages.specs.declared.attempt.Attempted.{Attempted}
+use Rattle.stages.specs.AttemptDefinition.{Ready}
+use Rattle.stages.specs.declared.subword.Verdict.{Verdict}
+use Rattle.stages.specs.declared.subword.Verdict.the-variants.{Clean, Corrected}
+use Rattle.stages.specs.SubwordDefinition.{verdict-of, Offered, Took}
+
+-- ---- patterns
+
+pub added : (n i a : ℕ) (b c e : Series) → a ≡ i * n → c ≡ b ⊞ zpow a ⊠ e → c ≡ add n i e b
+unfolding add
+added n i a b c e q h = h ∙ ap (λ k. b ⊞ zpow k ⊠ e) q
+
+add-none : (n i : ℕ) (b : Series) → b ≡ add n i O b
+unfolding add
+add-none n i b = simp ⊠-ring
+
+entry-none : (n : ℕ) → entry (word n O) ≡ O
+entry-none n = word-cut n O ∙ below-cut-eq n O (below-O n)
+
+-- ---- verdicts
+
+pub clean-is : (r k : ℕ) → r ≡ 0 → k ≡ 0 → verdict-of Clean ≡ line-of r k
+clean-is r k e f = rw (e, f)
+
+pub corrected-is : (r k : ℕ) → ¬ ((r ≡ 0) × (k ≡ 0)) → verdict-of (Corrected k r) ≡ line-of r k
+corrected-is r k h = by-cases (ℕ-discrete r 0) (λ e. rw e (sym (line-of-first k (λ f. h (e, f))))) (λ d. sym (line-of-corrected r k d))
+
+-- ---- what becomes of a subword
+
+module _ (p : Profile) (f : Form) (r i : ℕ) (S : Series) (b : Series) where
+  module _ (a : Attempted) (o : Offered p f r S a) where
+    pub took-none : a .settled .found ≡ false → (v : Verdict)
+        → Took p f r i S (answer (p .length) (a .settled)) b b (record { pending = true; line = record { verdict = v; solver = a .solver } })
+    unfolding answer
+    took-none missing v = rw missing (refl, refl, o .solver)
+
+    pub took-some : (c : Series) (v : Verdict) → a .settled .found ≡ true → c ≡ add (p .length) i (cut (p .length) (values (a .settled .pattern))) b
+        → verdict-of v ≡ line-of r (a .settled .count)
+        → Took p f r i S (answer (p .length) (a .settled)) b c (record { pending = false; line = record { verdict = v; solver = a .solver } })
+    unfolding answer
+    took-some c v hit is says =
+        let n = p .length in
+        let g = values (a .settled .pattern) in
+        let k : a .settled .count ≡ weight n (entry (word n g)) = o .count ∙ sym (weight-word n g) in
+        rw hit (
+          refl,
+          is ∙ ap (λ e. add n i e b) (sym (word-cut n g)),
+          says ∙ ap (line-of r) k,
+          subst (λ k. Ended f (line-rounds p S (line-of r k)) (a .solver)) k
+              (subst (λ l. Ended f (line-rounds p S l) (a .solver)) (corrected-is r _ (λ (e, z). o .some hit e z)) (o .solver)),
+        )
+
+  pub took-clean : (t : ℕ) (s : Solver) → p .length ≤ 255 → r ≡ 0 → S ≡ O → Ready p f r S s
+      → Took p f r i S (settle t (p .length) S) b b (record { pending = false; line = record { verdict = Clean; solver = s } })
+  took-clean t s hn e z h =
+      let n = p .length in
+      rw (z, settle-zero t n hn) (
+        refl,
+        add-none n i b ∙ ap (λ e. add n i e b) (sym (entry-none n)),
+        clean-is r _ e none-changed,
+        subst (λ l. Ended f (line-rounds p O l) s) (clean-is r _ e none-changed) (rw e at (h .ended)),
+      )
+    where
+      none-changed : weight (p .length) (entry (word (p .length) O)) ≡ 0
+      none-changed = weight-word (p .length) O ∙ weight-O (p .length)
+
+-- a pattern without a change explains a row of zeros only
+pub no-change : (t n : ℕ) (S e : Series) → below (2 * t) S → Explains t n S e → weight n e ≡ 0 → S ≡ O
+no-change t n S e past x z = fun-ext (λ j. by-cases (decLt j (2 * t)) (low j) (λ l. past j (omega arith)) ∙ sym (O-at j))
+  where
+    low : (j : ℕ) → j < 2 * t → S j ≡ 𝟎
+    low j l = sym (x .syndromes j l) ∙ syndrome-is n e j ∙ value-zero n e (root j) (zero-weight n e z)
+
+-- ---- clean or not
+
+pub clean-later : (r : ℕ) (b : Bool) → r ≢ 0 → false ≡ (eqb r 0 && b)
+clean-later r b h = sym (rw (ne-eqb r 0 h))
+
+pub clean-first : (r : ℕ) (b : Bool) → r ≡ 0 → b ≡ (eqb r 0 && b)
+clean-first r b e = sym (rw (eq-eqb r 0 e))
+
+pub clean-yes : (r : ℕ) (b : Bool) → (eqb r 0 && b) ≡ true → (r ≡ 0) × (b ≡ true)
+clean-yes r b h = go (eqb r 0) refl h
+  where
+    go : (x : Bool) → eqb r 0 ≡ x → (x && b) ≡ true → (r ≡ 0) × (b ≡ true)
+    go true e h = (eqb-true r 0 e, h)
+    go false e h = absurd (true≢false (sym h))
+
+pub offered : (p : Profile) (f : Form) (r : ℕ) (l : List Gf) (s : Solver) (a : Attempted) → (eqb r 0 && holds (zero? l)) ≡ false
+    → Ready p f r (row l) s → Sound (capability p r) (p .length) (row l) (a .settled) → Ended f (rounds-of p (row l) r) (a .solver)
+    → Offered p f r (row l) a
+offered p f r l s a dirty ready sound ended = record {
+  count = sound .count;
+  solver = ended;
+  some = λ hit e z. zero-not l (clean-first r _ e ∙ dirty)
+      (no-change (capability p r) (p .length) (row l) _ (ready .past) (sound .explains hit) (sym (sound .count) ∙ z));
+}

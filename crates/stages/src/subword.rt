@@ -1,0 +1,143 @@
+// One stage of one subword, in a block that is lent: it is settled already, clean or attempted. What the promises speak of stands in specs/SubwordDefinition.antt.
+ghost use Prim.Native.Nat.{_≤_, _<_};
+ghost use mathlib.Core.Path.{_≡_};
+ghost use mathlib.Core.Bool.{true, false, _&&_};
+ghost use lib.Dec.{eqb};
+ghost use Rattle.series.specs.Series.{Series};
+ghost use Rattle.series.specs.Shift.{cut};
+ghost use Rattle.series.specs.Array.{bytes, values};
+ghost use Rattle.series.specs.Decide.{holds};
+ghost use Rattle.polynomial.specs.Polynomial.{row as Row};
+ghost use Rattle.polynomial.specs.SyndromesZero.{zero?};
+ghost use Rattle.profile.specs.Definition.{capability};
+ghost use Rattle.block.specs.Parts.{Fits};
+ghost use Rattle.settling.specs.Definition.{settle as Settle};
+ghost use Rattle.settle.specs.Answer.{answer};
+ghost use Rattle.staged_decoding.specs.Definition.{add, line-of};
+ghost use Rattle.stages.specs.AttemptDefinition.{Ready};
+ghost use Rattle.stages.specs.SubwordDefinition.{verdict-of, Offered, Took, Stayed};
+use crate::attempt::Attempted;
+use field::Gf;
+use polynomial::SYNDROMES;
+use profile::Profile;
+use solver::Form;
+use solver::Solver;
+
+// Document 01's clean, or mended with its count and stage.
+pub enum Verdict {
+    Clean,
+    Corrected(u8, u8),
+}
+
+// A subword's line in the report, with the last state of its solver: at its start if the subword is clean.
+pub struct Line {
+    pub verdict: Verdict,
+    pub solver: Solver,
+}
+
+// A subword after a stage. The verdict of one that is pending, not settled yet, says nothing.
+pub struct Turned {
+    pub pending: bool,
+    pub line: Line,
+}
+
+// Settled at stage r by so many changes.
+fn verdict_of(r: u8, count: u8) -> Verdict
+    ensures { λ v. ⌜ verdict-of v ≡ line-of r count ⌝ }
+{
+    if r == 0 {
+        if count == 0 {
+            return Verdict::Clean;
+        }
+    }
+    Verdict::Corrected(count, r)
+}
+
+// The pattern is added to subword i.
+fn correct(p: Profile, i: usize, pattern: [Gf; 255], block: &mut [u8])
+    requires { ⌜ Fits p (now block) × (i < p .subwords) ⌝ }
+    ensures { λ _. ⌜ bytes (now (block .exit)) ≡ add (p .length) i (cut (p .length) (values pattern)) (bytes (now (block .entry))) ⌝ }
+{
+    let n = p.length as usize;
+    let a = i * n;
+    let mut q: usize = 0;
+    while q < n {
+        let e = pattern[q];
+        block[a + q] = block[a + q] ^ e.0;
+        q = q + 1;
+    }
+}
+
+// What an attempt has brought is taken: the block is corrected if the subword is settled.
+fn take(p: Profile, r: u8, i: usize, a: Attempted, block: &mut [u8]) -> Turned
+    requires { ⌜ Fits p (now block) × (i < p .subwords) ⌝ }
+    ensures { λ q. ⌜ ((f : Form) (S : Series) → Offered p f r S a
+        → Took p f r i S (answer (p .length) (a .settled)) (bytes (now (block .entry))) (bytes (now (block .exit))) q) ⌝ }
+{
+    let s = a.solver;
+    let w = a.settled;
+    if !w.found {
+        return Turned {
+            pending: true,
+            line: Line {
+                verdict: Verdict::Clean,
+                solver: s,
+            },
+        };
+    }
+    let pattern = w.pattern;
+    correct(p, i, pattern, block);
+    let v = verdict_of(r, w.count);
+    Turned {
+        pending: false,
+        line: Line {
+            verdict: v,
+            solver: s,
+        },
+    }
+}
+
+// Whether a subword is clean, which shows at stage 0.
+fn is_clean(r: u8, row: [Gf; SYNDROMES]) -> bool
+    ensures { λ b. ⌜ b ≡ (eqb r 0 && holds (zero? row)) ⌝ }
+{
+    if r != 0 {
+        return false;
+    }
+    polynomial::syndromes::is_zero(row)
+}
+
+// Stage r of subword i. A clean subword runs no solver; one that is settled stays as it is.
+pub fn turn(
+    p: Profile,
+    r: u8,
+    i: usize,
+    pending: bool,
+    line: Line,
+    row: [Gf; SYNDROMES],
+    block: &mut [u8],
+) -> Turned
+    requires { ⌜ Fits p (now block) × (i < p .subwords) × (r ≤ p .nested) ⌝ }
+    ensures settled { λ q. ⌜ (pending ≡ false → Stayed line (now (block .entry)) (now (block .exit)) q) ⌝ }
+    ensures pending { λ q. ⌜ (pending ≡ true → (f : Form) → Ready p f r (Row row) (line .solver)
+        → Took p f r i (Row row) (Settle (capability p r) (p .length) (Row row)) (bytes (now (block .entry))) (bytes (now (block .exit))) q) ⌝ }
+{
+    if !pending {
+        return Turned {
+            pending: false,
+            line: line,
+        };
+    }
+    let s = line.solver;
+    if is_clean(r, row) {
+        return Turned {
+            pending: false,
+            line: Line {
+                verdict: Verdict::Clean,
+                solver: s,
+            },
+        };
+    }
+    let a = crate::attempt::attempt(p, r, s, row);
+    take(p, r, i, a, block)
+}

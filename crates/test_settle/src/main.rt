@@ -1,0 +1,136 @@
+// Settles rows of syndromes by what the solver finds in each form, as the cases of standard input say, and prints a line for each:
+//
+//     FORM | t, n | settled or failed, how many symbols change | position and change of each
+//
+// `stdout` holds the same lines from an independent model.
+//
+// A case on standard input is a byte with t, one with n, and 2t syndromes.
+ghost use Prim.Native.Nat.{_≤_, _<_};
+ghost use lib.ListN.{length};
+use field::Gf;
+use settle::Settled;
+use solver::Form;
+use solver::Solver;
+use test_support::print;
+
+// The syndromes, then zeros.
+fn row(syndromes: &[u8]) -> [Gf; 48]
+    requires { ⌜ length (now syndromes) ≤ 48 ⌝ }
+{
+    let mut s = [Gf::ZERO; 48];
+    let mut i: usize = 0;
+    while i < syndromes.len() {
+        s[i] = Gf(syndromes[i]);
+        i = i + 1;
+    }
+    s
+}
+
+// The locator of the form that ran.
+fn locator(s: Solver) -> [Gf; 49] {
+    let form = s.form;
+    let p = s.plain;
+    let l = s.lookahead;
+    let c = s.scaled;
+    match form {
+        Form::Plain => p.locator,
+        Form::Lookahead => l.locator,
+        Form::Scaled => c.locator,
+    }
+}
+
+// The syndromes are one round: its entry and an iteration for each.
+fn settle(form: Form, syndromes: &[u8], n: usize, t: usize) -> Settled
+    requires { ⌜ (length (now syndromes) ≤ 48) × (n ≤ 255) × (t ≤ 24) ⌝ }
+{
+    let m = syndromes.len();
+    let lengths = [m as u8];
+    let end = solver::rounds::run(form, syndromes, &lengths, m + 1);
+    let s = end.solver;
+    settle::settle(locator(s), s.length() as usize, row(syndromes), n, t)
+}
+
+fn change(position: usize, y: Gf) {
+    if !y.is_zero() {
+        print::number(position);
+        print::value(y);
+    }
+}
+
+// The positions that change, each with its change.
+fn changes(pattern: [Gf; 255]) {
+    let mut i: usize = 0;
+    while i < 255 {
+        change(i, pattern[i]);
+        i = i + 1;
+    }
+}
+
+fn show(r: Settled) {
+    if r.found {
+        print::text(b" | settled");
+    } else {
+        print::text(b" | failed");
+    }
+    print::number(r.count as usize);
+    print::text(b" |");
+    let pattern = r.pattern;
+    changes(pattern);
+    print::text(b"\n");
+}
+
+fn one(name: &[u8], form: Form, syndromes: &[u8], n: usize, t: usize)
+    requires { ⌜ (length (now syndromes) ≤ 48) × (n ≤ 255) × (t ≤ 24) ⌝ }
+{
+    print::text(name);
+    print::text(b" |");
+    print::number(t);
+    print::number(n);
+    show(settle(form, syndromes, n, t));
+}
+
+fn wide(x: u8) -> usize
+    ensures { λ r. ⌜ r < 256 ⌝ }
+{
+    x as usize
+}
+
+// The case at a place, in each form, and where the next one is: the end, where the case is not whole.
+fn next(input: &[u8], at: usize) -> usize
+    requires { ⌜ at < length (now input) ⌝ }
+    ensures { λ r. ⌜ at < r ⌝ }
+{
+    let end = input.len();
+    if end - at < 2 {
+        return end;
+    }
+    let t = wide(input[at]);
+    let n = wide(input[at + 1]);
+    if 24 < t {
+        return end;
+    }
+    let a = at + 2;
+    let b = a + 2 * t;
+    if end < b {
+        return end;
+    }
+    let syndromes = &input[a..b];
+    one(b"plain", Form::Plain, syndromes, n, t);
+    one(b"lookahead", Form::Lookahead, syndromes, n, t);
+    one(b"scaled", Form::Scaled, syndromes, n, t);
+    b
+}
+
+// The cases of the input, one after the other.
+fn all(input: &[u8]) {
+    let mut at: usize = 0;
+    while at < input.len() {
+        at = next(input, at);
+    }
+}
+
+fn main() {
+    let mut space = io::large_buffer();
+    let n = io::read_full(0, &mut space);
+    all(&space[..n]);
+}
