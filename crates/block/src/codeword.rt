@@ -65,7 +65,7 @@ fn word(p: Profile, block: &[u8], l: usize) -> [u8; POSITIONS]
     [0u8; POSITIONS]
 }
 
-// The remainders of the nested words by their further roots: all in one turn, which takes little longer than one of them.
+// The remainders of the nested words by their further roots: all in one pass, which takes little longer than one of them.
 fn remainders(p: Profile, u: &[u64], block: &[u8]) -> [[u8; SYNDROMES]; NESTED]
     requires { ⌜ Fits p (now block) × Further p (now u) ⌝ }
     ensures { λ r. ⌜ Remainders p (bytes (now (block .entry))) r ⌝ }

@@ -1,4 +1,4 @@
-// The syndromes of the subwords of a block, from their remainders: four subwords a turn while four are left.
+// The syndromes of the subwords of a block, from their remainders: four subwords at a time while four are left.
 ghost use Prim.Native.Nat.{ℕ, _+_, _*_, _≤_, _<_};
 ghost use mathlib.Core.Path.{_≡_};
 ghost use Rattle.series.specs.Series.{Series};

@@ -1,4 +1,4 @@
--- The tables that are kept from turn to turn.
+-- The tables that are kept from section to section.
 --
 -- Proved: the tables for a section serve what comes next (made-next); none are asked for where a section was cut (cut-kept), nor more where no card leads to it
 -- (known-kept).
@@ -18,7 +18,7 @@ use Rattle.card.specs.declared.section.Section.the-variants.{Size, Bytes
 use Rattle.card.specs.SectionDefinition.{good, known, ends, silent, refusal}
 use Rattle.card.specs.HeadingDefinition.{profile-step}
 use Rattle.card.specs.PrintedDefinition.{count-of}
-use Rattle.card.specs.PrintedTurn.{whole, cut}
+use Rattle.card.specs.PrintedStep.{whole, cut}
 use Rattle.card.specs.Definition.{Made, Kept}
 
 module _ (t u : List ℕ) where

@@ -1,4 +1,4 @@
--- Turns come to an end.
+-- Sections come to an end.
 --
 -- Proved: a step brings the end nearer (step-falls), for bytes that are below 256.
 use Prim.Native.Nat.{ℕ, suc, _+_, _-_, _≤_, _<_}
@@ -20,7 +20,7 @@ use Rattle.card.specs.declared.section.Section.the-variants.{Size, Bytes
 use Rattle.card.specs.SectionDefinition.{good, known, size, ends, over, left, from, Step, silent, refusal}
 use Rattle.card.specs.HeadingDefinition.{profile-step}
 use Rattle.card.specs.PrintedDefinition.{count-of}
-use Rattle.card.specs.PrintedTurn.{whole, cut, step}
+use Rattle.card.specs.PrintedStep.{whole, cut, step}
 
 some-left : (s : Section) → over s ≡ false → 0 < left s
 some-left Size h = omega arith

@@ -28,7 +28,7 @@ use Rattle.card.specs.SectionLaws.{profile-accepts}
 use Rattle.card.specs.HeadingDefinition.{size-step, profile-step, count-step}
 use Rattle.card.specs.BlockLineDefinition.{text, block-line}
 use Rattle.card.specs.PrintedDefinition.{blocks, count-of, judged, profiled}
-use Rattle.card.specs.PrintedTurn.{whole, cut, step, after}
+use Rattle.card.specs.PrintedStep.{whole, cut, step, after}
 
 pub record Follows (x : Step) (a d : List ℕ) : Type 0 where
   pub good : good (x .next) ≡ true

@@ -1,4 +1,4 @@
--- The sections of a card, as turns take them.
+-- The sections of a card, as they are judged.
 --
 --   accepts p          the profile p passes questions 2 to 5
 --   good s             a card can lead to the section s: its profile was accepted, and the number of its block is below the number of blocks
@@ -8,10 +8,10 @@
 --   kinds s            so many kinds of sections are left, the one of s among them
 --   ends s             a card may end where s comes next
 --   over s             all is printed
---   left s             so many turns at most are left
+--   left s             so many sections at most are left
 --   from p i k         block i out of k, or the end
 --   Step               what a section comes to: the text that is printed, and what comes next (silent: no text; refusal: the card is refused)
---   Takes x l t m      the turn t takes the step x: the line was l, and is m now
+--   Takes x l t m      t is what the step x hands back: the line was l, and is m now
 use Prim.Native.Nat.{ℕ, suc, _-_}
 use mathlib.Core.Path.{_≡_}
 use mathlib.Core.Bool.{Bool, true, false, cond, _&&_}
@@ -24,7 +24,7 @@ use Rattle.profile.specs.Definition.{judged, block-size}
 use Rattle.listing.specs.Definition.{card-line, Printed}
 use Rattle.card.specs.declared.section.Section.{Section}
 use Rattle.card.specs.declared.section.Section.the-variants.{Size, Bytes, Count, Block, End, Over}
-use Rattle.card.specs.declared.section.Turn.{Turn}
+use Rattle.card.specs.declared.section.Judged.{Judged}
 
 abbrev pub passes : Parsed → Bool
 passes (Accepted p) = true
@@ -90,6 +90,6 @@ silent s = record { text = []; next = s }
 abbrev pub refusal : ℕ → Step
 refusal q = record { text = card-line q; next = Over }
 
-pub record Takes (x : Step) (l : List ℕ) (t : Turn) (m : List ℕ) : Type 0 where
+pub record Takes (x : Step) (l : List ℕ) (t : Judged) (m : List ℕ) : Type 0 where
   pub next : t .next ≡ x .next
   pub line : Printed (x .text) l (t .size) m

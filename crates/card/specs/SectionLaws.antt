@@ -3,7 +3,7 @@
 --   Judges s b    b says whether a card can lead to the section s, which then has at most 2040 bytes
 --
 -- Proved: a profile that is accepted, n being a byte, is valid (accepts-valid), and its blocks have at most 2040 bytes (accepted-yes); the profile of bytes that
--- are accepted is (profile-accepts); a section that is judged is known (known-yes), or Over takes its place (known-no); a turn that prints nothing (takes-silent).
+-- are accepted is (profile-accepts); a section that is judged is known (known-yes), or Over takes its place (known-no); judging that prints nothing (takes-silent).
 use Prim.Native.Nat.{ℕ, _≤_}
 use mathlib.Core.Path.{_≡_, refl, sym, ap, _∙_, subst, subst⁻¹}
 use mathlib.Core.Bool.{Bool, true, false, cond, true≢false}
@@ -21,7 +21,7 @@ use Rattle.profile.specs.Definition.{judged, read, profile-of, block-size}
 use Rattle.profile.specs.Valid.{Valid, judged-valid, judged-same}
 use Rattle.card.specs.declared.section.Section.{Section}
 use Rattle.card.specs.declared.section.Section.the-variants.{Over}
-use Rattle.card.specs.declared.section.Turn.{Turn}
+use Rattle.card.specs.declared.section.Judged.{Judged}
 use Rattle.card.specs.SectionDefinition.{passes, accepts, good, known, size, Step, silent, Takes}
 
 judged-is : (p q : Profile) → judged p ≡ Accepted q → p .length ≤ 255 → Valid p
@@ -67,11 +67,11 @@ known-yes s b h e = (sym (ap (λ g. cond g s Over) (sym (h .0) ∙ e)), h .1 e)
 pub known-no : (s : Section) (b : Bool) → b ≡ good s → b ≡ false → Over ≡ known s
 known-no s b h e = sym (ap (λ g. cond g s Over) (sym h ∙ e))
 
--- ---- turns
+-- ---- steps
 
 -- nothing is printed
 pub takes-silent : (s : Section) (l : List ℕ) → Takes (silent s) l (record { next = s; size = 0 }) l
 takes-silent s l = record { next = refl; line = record { size = refl; says = refl } }
 
-pub takes-as : {x y : Step} {l m : List ℕ} {t : Turn} → x ≡ y → Takes x l t m → Takes y l t m
+pub takes-as : {x y : Step} {l m : List ℕ} {t : Judged} → x ≡ y → Takes x l t m → Takes y l t m
 takes-as {l = l} {m = m} {t = t} e h = subst (λ x. Takes x l t m) e h

@@ -21,7 +21,7 @@ use solver::Form;
 pub const TABLE: usize = divider::generator::TABLE;
 
 // Room for a block.
-fn room() -> [u8; SECTION]
+fn blank() -> [u8; SECTION]
     ensures { λ r. ⌜ length r ≡ 2040 ⌝ }
 {
     [0u8; SECTION]
@@ -50,7 +50,7 @@ fn prepare(p: Profile, i: u16, kept: bool, t: &mut [u64; TABLE], u: &mut [u64; T
     block::codeword::tables(p, t, u);
 }
 
-// Reads block i into the room that is lent. All three solvers answer alike; it is the plain one.
+// Reads block i into the array that is lent. All three solvers answer alike; it is the plain one.
 fn read_block(
     p: Profile,
     i: u16,
@@ -97,7 +97,7 @@ pub fn print(
     let n = block.len();
     if is_block(p, n) {
         prepare(p, i, kept, t, u);
-        let mut out = room();
+        let mut out = blank();
         return read_block(p, i, t, u, block, &mut out[..n], line);
     }
     0

@@ -4,42 +4,42 @@ ghost use Prim.Native.Nat.{_+_, _*_};
 ghost use Rattle.profile.specs.Definition.{profile-of};
 ghost use Rattle.card.specs.SectionDefinition.{refusal, Takes};
 ghost use Rattle.card.specs.HeadingDefinition.{size-step, profile-step, count-step};
+use crate::section::Judged;
 use crate::section::Section;
-use crate::section::Turn;
 use listing::LINE;
 use profile::Parsed;
 use profile::Profile;
 use profile::Refusal;
 
 // A card is refused: its last line.
-pub fn refuse(q: u8, line: &mut [u8; LINE]) -> Turn
+pub fn refuse(q: u8, line: &mut [u8; LINE]) -> Judged
     ensures { λ t. ⌜ Takes (refusal q) (now (line .entry)) t (now (line .exit)) ⌝ }
 {
     let size = listing::card(q, line);
-    Turn {
+    Judged {
         next: Section::Over,
         size: size,
     }
 }
 
 // A profile has seven bytes.
-pub fn judge_size(n: u8, line: &mut [u8; LINE]) -> Turn
+pub fn judge_size(n: u8, line: &mut [u8; LINE]) -> Judged
     ensures { λ t. ⌜ Takes (size-step n) (now (line .entry)) t (now (line .exit)) ⌝ }
 {
     if n != 7 {
         return refuse(profile::number(Refusal::ProfileSize), line);
     }
-    Turn {
+    Judged {
         next: Section::Bytes,
         size: 0,
     }
 }
 
-pub fn judge_bytes(bytes: &[u8], line: &mut [u8; LINE]) -> Turn
+pub fn judge_bytes(bytes: &[u8], line: &mut [u8; LINE]) -> Judged
     ensures { λ t. ⌜ Takes (profile-step (profile-of (now (bytes .entry)))) (now (line .entry)) t (now (line .exit)) ⌝ }
 {
     match profile::parse::parse(bytes) {
-        Parsed::Accepted(p) => Turn {
+        Parsed::Accepted(p) => Judged {
             next: Section::Count(p),
             size: 0,
         },
@@ -48,12 +48,12 @@ pub fn judge_bytes(bytes: &[u8], line: &mut [u8; LINE]) -> Turn
 }
 
 // The high byte of the number of blocks comes first.
-pub fn judge_count(p: Profile, high: u8, low: u8, line: &mut [u8; LINE]) -> Turn
+pub fn judge_count(p: Profile, high: u8, low: u8, line: &mut [u8; LINE]) -> Judged
     ensures { λ t. ⌜ Takes (count-step p (256 * high + low)) (now (line .entry)) t (now (line .exit)) ⌝ }
 {
     let k = 256 * (high as u16) + low as u16;
     let size = listing::blocks(k, line);
-    Turn {
+    Judged {
         next: crate::section::block_or_end(p, 0, k),
         size: size,
     }

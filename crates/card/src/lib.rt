@@ -1,5 +1,5 @@
-// A card, section by section: each is judged as it arrives, and a line is printed for it. What a turn comes to, and that turns print the list of the card,
-// stands in specs/PrintedTurn.antt and specs/PrintedWhole.antt.
+// A card, section by section: each is judged as it arrives, and a line is printed for it. What one section comes to, and that all of them together print the list of the card,
+// stands in specs/PrintedStep.antt and specs/PrintedWhole.antt.
 mod block_line;
 mod heading;
 pub mod section;
@@ -11,10 +11,10 @@ ghost use lib.Dec.{eqb};
 ghost use lib.ListN.{length};
 ghost use Rattle.profile.specs.Definition.{block-size};
 ghost use Rattle.card.specs.SectionDefinition.{accepts, good, size as SizeOf, Takes};
-ghost use Rattle.card.specs.PrintedTurn.{whole as Whole, cut as Cut, Turns};
+ghost use Rattle.card.specs.PrintedStep.{whole as Whole, cut as Cut, Judges};
 ghost use Rattle.card.specs.Definition.{Made, Kept};
+use crate::section::Judged;
 use crate::section::Section;
-use crate::section::Turn;
 use listing::LINE;
 use profile::Profile;
 
@@ -28,7 +28,7 @@ const CUT: u8 = 11;
 const BEYOND: u8 = 12;
 
 // Room for a table.
-fn room() -> [u64; TABLE] {
+fn blank() -> [u64; TABLE] {
     [0u64; TABLE]
 }
 
@@ -41,13 +41,13 @@ fn judge_block(
     u: &mut [u64; TABLE],
     block: &[u8],
     line: &mut [u8; LINE],
-) -> Turn
+) -> Judged
     requires { ⌜ (i < k) × (accepts p && eqb (length (now block)) (block-size p) ≡ true) × (kept ≡ true → Kept (Section.Block p i k) (now t) (now u)) ⌝ }
     ensures { λ r. ⌜ Takes (Whole (Section.Block p i k) (now (block .entry))) (now (line .entry)) r (now (line .exit)) ⌝ }
     ensures made { λ r. ⌜ Made (Section.Block p i k) (now (t .exit)) (now (u .exit)) ⌝ }
 {
     let size = crate::block_line::print(p, i, kept, t, u, block, line);
-    Turn {
+    Judged {
         next: crate::section::block_or_end(p, i + 1, k),
         size: size,
     }
@@ -61,7 +61,7 @@ fn whole(
     u: &mut [u64; TABLE],
     bytes: &[u8],
     line: &mut [u8; LINE],
-) -> Turn
+) -> Judged
     requires { ⌜ (good s ≡ true) × (length (now bytes) ≡ SizeOf s) × (kept ≡ true → Kept s (now t) (now u)) ⌝ }
     ensures { λ r. ⌜ Takes (Whole s (now (bytes .entry))) (now (line .entry)) r (now (line .exit)) ⌝ }
     ensures made { λ r. ⌜ Made s (now (t .exit)) (now (u .exit)) ⌝ }
@@ -72,7 +72,7 @@ fn whole(
         Section::Count(p) => crate::heading::judge_count(p, bytes[0], bytes[1], line),
         Section::Block(p, i, k) => judge_block(p, i, k, kept, t, u, bytes, line),
         Section::End => crate::heading::refuse(BEYOND, line),
-        Section::Over => Turn {
+        Section::Over => Judged {
             next: Section::Over,
             size: 0,
         },
@@ -80,11 +80,11 @@ fn whole(
 }
 
 // A section that is not whole.
-fn cut(s: Section, line: &mut [u8; LINE]) -> Turn
+fn cut(s: Section, line: &mut [u8; LINE]) -> Judged
     ensures { λ t. ⌜ Takes (Cut s) (now (line .entry)) t (now (line .exit)) ⌝ }
 {
     if crate::section::may_end(s) {
-        return Turn {
+        return Judged {
             next: Section::Over,
             size: 0,
         };
@@ -92,7 +92,7 @@ fn cut(s: Section, line: &mut [u8; LINE]) -> Turn
     crate::heading::refuse(CUT, line)
 }
 
-// Judges as `judge` does, with room lent for the tables that blocks are divided by. Whoever lends the same room turn after turn says `kept`, and the tables are
+// Judges as `judge` does, with arrays lent for the tables that blocks are divided by. Whoever lends the same arrays for section after section says `kept`, and the tables are
 // made once for a card.
 pub fn judge_kept(
     s: Section,
@@ -101,9 +101,9 @@ pub fn judge_kept(
     u: &mut [u64; TABLE],
     bytes: &[u8],
     line: &mut [u8; LINE],
-) -> Turn
+) -> Judged
     requires { ⌜ (kept ≡ true → Kept s (now t) (now u)) ⌝ }
-    ensures { λ r. ⌜ Turns s (now (bytes .entry)) (now (line .entry)) r (now (line .exit)) ⌝ }
+    ensures { λ r. ⌜ Judges s (now (bytes .entry)) (now (line .entry)) r (now (line .exit)) ⌝ }
     ensures kept { λ r. ⌜ Kept (r .next) (now (t .exit)) (now (u .exit)) ⌝ }
 {
     let n = crate::section::wanted(s);
@@ -116,10 +116,10 @@ pub fn judge_kept(
 
 // The section that comes next is judged: as many bytes as are wanted, or fewer, if those are the last of the card. Bytes beyond those that are wanted are of no
 // interest, and a section that no card leads to is taken for the last, for which nothing is printed.
-pub fn judge(s: Section, bytes: &[u8], line: &mut [u8; LINE]) -> Turn
-    ensures { λ t. ⌜ Turns s (now (bytes .entry)) (now (line .entry)) t (now (line .exit)) ⌝ }
+pub fn judge(s: Section, bytes: &[u8], line: &mut [u8; LINE]) -> Judged
+    ensures { λ t. ⌜ Judges s (now (bytes .entry)) (now (line .entry)) t (now (line .exit)) ⌝ }
 {
-    let mut t = room();
-    let mut u = room();
+    let mut t = blank();
+    let mut u = blank();
     judge_kept(s, false, &mut t, &mut u, bytes, line)
 }

@@ -1,4 +1,4 @@
-// The sections of a card: which of them a card leads to, how many bytes each has, and what a turn hands back. What the promises speak of stands in
+// The sections of a card: which of them a card leads to, how many bytes each has, and what judging one hands back. What the promises speak of stands in
 // specs/SectionDefinition.antt.
 ghost use Prim.Native.Nat.{_≤_};
 ghost use mathlib.Core.Path.{_≡_};
@@ -29,7 +29,7 @@ pub enum Section {
 }
 
 // What comes next after a section, and how many bytes of the line are printed.
-pub struct Turn {
+pub struct Judged {
     pub next: Section,
     pub size: usize,
 }

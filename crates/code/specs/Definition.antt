@@ -11,7 +11,7 @@ use Rattle.field.specs.Field.{α, _⊙_, pow}
 use Rattle.series.specs.Sum.{sum}
 use Rattle.series.specs.Series.{Series}
 use Rattle.profile.specs.declared.Profile.{Profile}
-use Rattle.profile.specs.Definition.{capability, checks, room, data-start}
+use Rattle.profile.specs.Definition.{capability, checks, data-length, data-start}
 use Rattle.code.specs.Word.{InCode}
 
 -- "A block is m × n bytes, strip after strip. Byte p of strip i is the coefficient of z^p in c_i(z)."
@@ -29,7 +29,7 @@ pub record Codeword (p : Profile) (s : Series) : Type 0 where
 
 -- "Data fills them strip by strip, places rising."
 abbrev pub Carries : Profile → Series → Series → Type 0
-Carries p d s = (i : ℕ) → i < p .subwords → (q : ℕ) → q < room p i → subword (p .length) s i (checks p i + q) ≡ d (data-start p i + q)
+Carries p d s = (i : ℕ) → i < p .subwords → (q : ℕ) → q < data-length p i → subword (p .length) s i (checks p i + q) ≡ d (data-start p i + q)
 
 pub record Encodes (p : Profile) (d s : Series) : Type 0 where
   pub code : Codeword p s

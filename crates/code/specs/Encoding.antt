@@ -22,7 +22,7 @@ use Rattle.series.specs.Word.{entry, word, length-word, entry-word, word-ext}
 use Rattle.series.specs.Array.{bytes, bytes-entry}
 use Rattle.series.specs.First.{first, first-one}
 use Rattle.profile.specs.declared.Profile.{Profile}
-use Rattle.profile.specs.Definition.{capability, checks, room, data-start, block-size}
+use Rattle.profile.specs.Definition.{capability, checks, data-length, data-start, block-size}
 use Rattle.profile.specs.Valid.{Valid}
 use Rattle.code.specs.Word.{syndrome, InCode, systematic}
 use Rattle.code.specs.Definition.{subword, nested, Codeword, Carries, Encodes}
@@ -43,7 +43,7 @@ codeword? p s =
     (all? (p .nested) (λ l. in-code? (p .length) (capability p (p .nested - l)) (nested p s l))))
 
 carries? : (p : Profile) (d s : Series) → Dec (Carries p d s)
-carries? p d s = all? (p .subwords) (λ i. all? (room p i) (λ q. subword (p .length) s i (checks p i + q) ≟ d (data-start p i + q)))
+carries? p d s = all? (p .subwords) (λ i. all? (data-length p i) (λ q. subword (p .length) s i (checks p i + q) ≟ d (data-start p i + q)))
 
 pub encodes? : (p : Profile) (d s : Series) → Dec (Encodes p d s)
 encodes? p d s =

@@ -42,8 +42,8 @@ fn read(p: Profile, form: Form, input: &[u8], out: &mut [u8]) -> Reading
     requires { ⌜ Fits p (now input) × (length (now out) ≡ length (now input)) ⌝ }
     ensures { λ r. ⌜ Gives form (concluded p (Decode p (bytes (now (input .entry))))) (now (out .entry)) (now (out .exit)) r ⌝ }
 {
-    let mut t = divider::generator::room();
-    let mut u = divider::generator::room();
+    let mut t = divider::generator::blank();
+    let mut u = divider::generator::blank();
     block::codeword::tables(p, &mut t, &mut u);
     crate::prepared::read(p, form, &t, &u, input, out)
 }

@@ -93,7 +93,7 @@ pub fn refuse(q: Refusal, form: Form, out: &mut [u8]) -> Reading
 }
 
 // Room for a block.
-fn room() -> [u8; SYMBOLS] {
+fn blank() -> [u8; SYMBOLS] {
     [0u8; SYMBOLS]
 }
 
@@ -166,6 +166,6 @@ pub fn read(p: Profile, form: Form, t: &[u64], u: &[u64], input: &[u8], out: &mu
         };
     }
     let n = input.len();
-    let mut block = room();
+    let mut block = blank();
     decode_copy(p, form, u, syndromes, input, &mut block[..n], out)
 }

@@ -46,7 +46,7 @@ fn generator(first: usize, k: usize) -> [u8; 48]
 }
 
 // Room for a table.
-pub fn room() -> [u64; TABLE]
+pub fn blank() -> [u64; TABLE]
     ensures { λ r. ⌜ length r ≡ 1536 ⌝ }
 {
     [0u64; TABLE]

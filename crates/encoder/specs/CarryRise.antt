@@ -1,6 +1,6 @@
 -- A word times a factor and another word, symbol by symbol.
 --
---   change c f g   what turns f into c times f, and g
+--   change c f g   what makes of f c times f, and g
 use Prim.Native.Nat.{ℕ, _+_, _≤_, _<_}
 use mathlib.Core.Path.{_≡_, sym, ap, ap₂, _∙_}
 use mathlib.Core.List.{List}

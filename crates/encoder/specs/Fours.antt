@@ -1,4 +1,4 @@
--- Four subwords at a turn.
+-- Four subwords at a time.
 --
 --   Known n k d r                   r holds the remainder of the word of n symbols that has k check symbols, not yet found, and the data d
 --   WroteFour p a b c d i s t       the block t is the block s with subwords i to i + 3 written, a to d being their data
@@ -15,8 +15,8 @@ use Rattle.series.specs.Degree.{below, below-zpow, below-⊠, below-⊞, below-
 use Rattle.series.specs.Array.{bytes, below-read}
 use Rattle.series.specs.Part.{splice, read-prefix}
 use Rattle.profile.specs.declared.Profile.{Profile}
-use Rattle.profile.specs.Definition.{checks, room}
-use Rattle.profile.specs.Valid.{checks-high, checks-most, checks-room}
+use Rattle.profile.specs.Definition.{checks, data-length}
+use Rattle.profile.specs.Valid.{checks-high, checks-most, checks-below}
 use Rattle.code.specs.Word.{systematic}
 use Rattle.divider.specs.ReedSolomonResidue.{residue, Residual, below-residue, residue-systematic}
 use Rattle.block.specs.Parts.{Fits, inside}
@@ -51,7 +51,7 @@ known-is n k d w r e h ew p = record {
 }
 
 -- the word with its remainder added goes to subword i, to which nothing is carried
-pub known-wrote : (p : Profile) (i k m : ℕ) (d s y w r : List ℕ) → Fits p s → p .nested ≤ i → i < p .subwords → k ≡ checks p i → length d ≡ room p i
+pub known-wrote : (p : Profile) (i k m : ℕ) (d s y w r : List ℕ) → Fits p s → p .nested ≤ i → i < p .subwords → k ≡ checks p i → length d ≡ data-length p i
     → m ≡ p .length → length y ≡ p .length → length w ≡ 255 → Known (p .length) k d r → bytes w ≡ zpow k ⊠ bytes d ⊞ zpow 0 ⊠ bytes r
     → drop 0 (bytes y) ≡ bytes (take (p .length) w) ⊞ drop 0 (bytes (take (p .length) (replicate 255 0)))
     → Wrote p (bytes d) i (bytes s) (bytes (splice (i * p .length) m y s))
@@ -67,7 +67,7 @@ known-wrote p i k m d s y w r fits high h ek ed em ly lw kn ew ey =
     most = fits .valid .length .1
 
     all : k + length d ≡ n
-    all = omega (arith, ek, ed, checks-room p (fits .valid) i)
+    all = omega (arith, ek, ed, checks-below p (fits .valid) i)
 
     zero : bytes (take n (replicate 255 0)) ≡ O
     zero = prefix-zeros n 255 most
@@ -92,8 +92,8 @@ known-wrote p i k m d s y w r fits high h ek ed em ly lw kn ew ey =
     none = ap (λ (e : Series). systematic n k (zpow k ⊠ bytes d ⊞ e) ⊞ e) zero ∙ ⊞-zero _ ∙ ap (systematic n k) (⊞-zero _)
 
 -- all subwords from v on are alike: what is known at i serves j subwords above it
-pub known-above : (p : Profile) (i j k : ℕ) (d r s : List ℕ) → Fits p s → p .nested ≤ i → i + j < p .subwords → k ≡ checks p i → length d ≡ room p i → Known (p .length) k d r
-    → Fits p s × (p .nested ≤ i + j) × (i + j < p .subwords) × (k ≡ checks p (i + j)) × (length d ≡ room p (i + j)) × Known (p .length) k d r
+pub known-above : (p : Profile) (i j k : ℕ) (d r s : List ℕ) → Fits p s → p .nested ≤ i → i + j < p .subwords → k ≡ checks p i → length d ≡ data-length p i → Known (p .length) k d r
+    → Fits p s × (p .nested ≤ i + j) × (i + j < p .subwords) × (k ≡ checks p (i + j)) × (length d ≡ data-length p (i + j)) × Known (p .length) k d r
 known-above p i j k d r s fits high h ek ed known =
     let same : checks p (i + j) ≡ checks p i = checks-high p (i + j) (omega arith) ∙ sym (checks-high p i high) in
     (fits, omega arith, h, ek ∙ sym same, ed ∙ ap (λ c. p .length - c) (sym same), known)

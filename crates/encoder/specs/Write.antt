@@ -1,7 +1,7 @@
 -- From subword to subword.
 --
 --   Upper p D s i      the subwords from i on of the block s are right for the data D
---   Turn p l i k end   where the data of subword i are, and how many
+--   Stretch p l i k end   where the data of subword i are, and how many
 use Prim.Native.Nat.{ℕ, zero, suc, _+_, _-_, _≤_, _<_}
 use mathlib.Core.Path.{_≡_, sym, ap, _∙_}
 use mathlib.Core.List.{List}
@@ -15,8 +15,8 @@ use Rattle.series.specs.Shift.{zpow, cut, zpow-at, drop-at, cut-low}
 use Rattle.series.specs.Array.{bytes}
 use Rattle.series.specs.Part.{read-part}
 use Rattle.profile.specs.declared.Profile.{Profile}
-use Rattle.profile.specs.Definition.{checks, room, data-start, data-size}
-use Rattle.profile.specs.Valid.{Valid, checks-high, checks-room, data-start-most}
+use Rattle.profile.specs.Definition.{checks, data-length, data-start, data-size}
+use Rattle.profile.specs.Valid.{Valid, checks-high, checks-below, data-start-most}
 use Rattle.code.specs.Triangle.{carried, carried-cong}
 use Rattle.code.specs.Right.{Right, right-stays, right-step}
 use Rattle.encoder.specs.CarrySubword.{filled, Wrote}
@@ -25,7 +25,7 @@ use Rattle.encoder.specs.Fours.{WroteFour}
 -- ---- from the last subword to the first
 
 -- a subword that was written is right for the data D of the whole block
-wrote-right : (p : Profile) → Valid p → (d D old new : Series) (i : ℕ) → ((q : ℕ) → q < room p i → d q ≡ D (data-start p i + q))
+wrote-right : (p : Profile) → Valid p → (d D old new : Series) (i : ℕ) → ((q : ℕ) → q < data-length p i → d q ≡ D (data-start p i + q))
     → Wrote p d i old new → Right p D new i
 unfolding filled
 wrote-right p ok d D old new i part w = right-step p ok D new c x i carry given (λ q l. w .here q l ∙ ⊞-at _ _ q ∙ ⊕-comm _ _)
@@ -39,14 +39,14 @@ wrote-right p ok d D old new i part w = right-step p ok D new c x i carry given 
     carry : (q : ℕ) → q < p .length → carried p new i q ≡ c q
     carry q l = sym (carried-cong p old new i (w .above) q l) ∙ sym (cut-low (p .length) _ q l)
 
-    given : (q : ℕ) → q < room p i → x (checks p i + q) ≡ D (data-start p i + q) ⊕ c (checks p i + q)
+    given : (q : ℕ) → q < data-length p i → x (checks p i + q) ≡ D (data-start p i + q) ⊕ c (checks p i + q)
     given q l = ⊞-at _ _ (checks p i + q) ∙ ap (λ t. t ⊕ c (checks p i + q)) (zpow-at (checks p i) d q ∙ part q l)
 
 -- the subwords from i on are right
 abbrev pub Upper : Profile → Series → Series → ℕ → Type 0
 Upper p D s i = (k : ℕ) → i ≤ k → k < p .subwords → Right p D s k
 
-pub upper-next : (p : Profile) → Valid p → (d D old new : Series) (i : ℕ) → ((q : ℕ) → q < room p i → d q ≡ D (data-start p i + q))
+pub upper-next : (p : Profile) → Valid p → (d D old new : Series) (i : ℕ) → ((q : ℕ) → q < data-length p i → d q ≡ D (data-start p i + q))
     → Wrote p d i old new → Upper p D old (suc i) → Upper p D new i
 upper-next p ok d D old new i part w u k h l = go (ℕ-discrete k i)
   where
@@ -54,48 +54,48 @@ upper-next p ok d D old new i part w u k h l = go (ℕ-discrete k i)
     go (yes e) = rw e (wrote-right p ok d D old new i part w)
     go (no e) = right-stays p D old new k l (λ j v. w .above j (omega arith)) (u k (omega arith) l)
 
--- where the data of subword i end, l data symbols being given in all, and where they start: the numbers of a turn
-pub record Turn (p : Profile) (l i k end : ℕ) : Type 0 where
+-- where the data of subword i end, l data symbols being given in all, and where they start: the numbers of a stretch
+pub record Stretch (p : Profile) (l i k end : ℕ) : Type 0 where
   pub less : i < p .subwords
   pub checks-le : k ≤ p .length
-  pub room-le : p .length - k ≤ end
+  pub length-le : p .length - k ≤ end
   pub start : end - (p .length - k) ≡ data-start p i
-  pub size : end - (end - (p .length - k)) ≡ room p i
+  pub size : end - (end - (p .length - k)) ≡ data-length p i
   pub end-le : end ≤ l
 
-pub turn : (p : Profile) → Valid p → (l i k end : ℕ) → 0 < i → i ≤ p .subwords → l ≡ data-size p → k ≡ checks p (i - 1) → end ≡ data-start p i
-    → Turn p l (i - 1) k end
-turn p ok l zero k end h m el ek ee = absurd (omega arith)
-turn p ok l (suc i) k end h m el ek ee =
+pub stretch : (p : Profile) → Valid p → (l i k end : ℕ) → 0 < i → i ≤ p .subwords → l ≡ data-size p → k ≡ checks p (i - 1) → end ≡ data-start p i
+    → Stretch p l (i - 1) k end
+stretch p ok l zero k end h m el ek ee = absurd (omega arith)
+stretch p ok l (suc i) k end h m el ek ee =
     let f : suc i - 1 ≡ i = omega arith in
     let ck : k ≡ checks p i = ek ∙ ap (checks p) f in
     rw f (record {
       less = omega arith;
-      checks-le = omega (arith, ck, checks-room p ok i);
-      room-le = omega (arith, ck, ee);
+      checks-le = omega (arith, ck, checks-below p ok i);
+      length-le = omega (arith, ck, ee);
       start = omega (arith, ck, ee);
       size = omega (arith, ck, ee);
       end-le = omega (arith, ee, el, data-start-most p ok (suc i) m);
     })
 
 -- the data of subword i as a part of all data, a being where they start
-pub part-data : (p : Profile) (i a m : ℕ) (d : List ℕ) → a ≡ data-start p i → m ≡ room p i → a + m ≤ length d
-    → (q : ℕ) → q < room p i → bytes (take m (drop-list a d)) q ≡ bytes d (data-start p i + q)
+pub part-data : (p : Profile) (i a m : ℕ) (d : List ℕ) → a ≡ data-start p i → m ≡ data-length p i → a + m ≤ length d
+    → (q : ℕ) → q < data-length p i → bytes (take m (drop-list a d)) q ≡ bytes d (data-start p i + q)
 part-data p i a m d ea em h q l =
     ap (λ (f : Series). f q) (read-part of 0 of-zero a m d h) ∙ cut-low m _ q (omega arith) ∙ drop-at a _ q ∙ ap (λ a. bytes d (a + q)) ea
 
--- ---- four subwords at a turn
+-- ---- four subwords at a stretch
 
 -- one subword back: where its data start, all subwords from v on having as many
-back : (p : Profile) (i j one end : ℕ) → j ≡ suc i → one ≡ room p i → end ≡ data-start p j → (one ≤ end) × (end - one ≡ data-start p i)
+back : (p : Profile) (i j one end : ℕ) → j ≡ suc i → one ≡ data-length p i → end ≡ data-start p j → (one ≤ end) × (end - one ≡ data-start p i)
 back p i j one end e eo ee =
-    let f : end ≡ data-start p i + room p i = ee ∙ ap (data-start p) e in
+    let f : end ≡ data-start p i + data-length p i = ee ∙ ap (data-start p) e in
     (omega arith, omega arith)
 
 -- where the data of subwords i to i + 3 start, l data symbols being given in all and those of subword i + 3 ending at `end`
 pub record Quarters (p : Profile) (l i one end : ℕ) : Type 0 where
   pub less : i + 4 ≤ p .subwords
-  pub rooms : (j : ℕ) → i ≤ j → one ≡ room p j
+  pub lengths : (j : ℕ) → i ≤ j → one ≡ data-length p j
   pub some : 0 < one
   pub d-le : one ≤ end
   pub d : end - one ≡ data-start p (i + 3)
@@ -110,14 +110,14 @@ pub record Quarters (p : Profile) (l i one end : ℕ) : Type 0 where
 pub quarters : (p : Profile) → Valid p → (l i k end : ℕ) → p .nested + 4 ≤ i → i ≤ p .subwords → l ≡ data-size p → k ≡ checks p (p .nested) → end ≡ data-start p i
     → Quarters p l (i - 4) (p .length - k) end
 quarters p ok l i k end h m el ek ee =
-    let d = back p (i - 4 + 3) i (p .length - k) end (omega arith) (rooms (i - 4 + 3) (omega arith)) ee in
-    let c = back p (i - 4 + 2) (i - 4 + 3) (p .length - k) (end - (p .length - k)) (omega arith) (rooms (i - 4 + 2) (omega arith)) (d .1) in
-    let b = back p (i - 4 + 1) (i - 4 + 2) (p .length - k) (end - (p .length - k) - (p .length - k)) (omega arith) (rooms (i - 4 + 1) (omega arith)) (c .1) in
-    let a = back p (i - 4) (i - 4 + 1) (p .length - k) (end - (p .length - k) - (p .length - k) - (p .length - k)) (omega arith) (rooms (i - 4) (omega arith)) (b .1) in
+    let d = back p (i - 4 + 3) i (p .length - k) end (omega arith) (lengths (i - 4 + 3) (omega arith)) ee in
+    let c = back p (i - 4 + 2) (i - 4 + 3) (p .length - k) (end - (p .length - k)) (omega arith) (lengths (i - 4 + 2) (omega arith)) (d .1) in
+    let b = back p (i - 4 + 1) (i - 4 + 2) (p .length - k) (end - (p .length - k) - (p .length - k)) (omega arith) (lengths (i - 4 + 1) (omega arith)) (c .1) in
+    let a = back p (i - 4) (i - 4 + 1) (p .length - k) (end - (p .length - k) - (p .length - k) - (p .length - k)) (omega arith) (lengths (i - 4) (omega arith)) (b .1) in
     record {
       less = omega arith;
-      rooms = rooms;
-      some = omega (arith, ek, checks-room p ok (p .nested));
+      lengths = lengths;
+      some = omega (arith, ek, checks-below p ok (p .nested));
       d-le = d .0;
       d = d .1;
       c-le = c .0;
@@ -129,12 +129,12 @@ quarters p ok l i k end h m el ek ee =
       end-le = omega (arith, ee, el, data-start-most p ok i m);
     }
   where
-    rooms : (j : ℕ) → i - 4 ≤ j → p .length - k ≡ room p j
-    rooms j u = ap (λ c. p .length - c) (ek ∙ checks-high p (p .nested) (omega arith) ∙ sym (checks-high p j (omega arith)))
+    lengths : (j : ℕ) → i - 4 ≤ j → p .length - k ≡ data-length p j
+    lengths j u = ap (λ c. p .length - c) (ek ∙ checks-high p (p .nested) (omega arith) ∙ sym (checks-high p j (omega arith)))
 
 pub upper-four : (p : Profile) → Valid p → (a b c d D old new : Series) (i : ℕ)
-    → ((q : ℕ) → q < room p i → a q ≡ D (data-start p i + q)) → ((q : ℕ) → q < room p (i + 1) → b q ≡ D (data-start p (i + 1) + q))
-    → ((q : ℕ) → q < room p (i + 2) → c q ≡ D (data-start p (i + 2) + q)) → ((q : ℕ) → q < room p (i + 3) → d q ≡ D (data-start p (i + 3) + q))
+    → ((q : ℕ) → q < data-length p i → a q ≡ D (data-start p i + q)) → ((q : ℕ) → q < data-length p (i + 1) → b q ≡ D (data-start p (i + 1) + q))
+    → ((q : ℕ) → q < data-length p (i + 2) → c q ≡ D (data-start p (i + 2) + q)) → ((q : ℕ) → q < data-length p (i + 3) → d q ≡ D (data-start p (i + 3) + q))
     → WroteFour p a b c d i old new → Upper p D old (i + 4) → Upper p D new i
 upper-four p ok a b c d D old new i pa pb pc pd w u = upper-next p ok a D _ new i pa (w .at-0) (λ k h l. u1 k (omega arith) l)
   where
@@ -155,6 +155,6 @@ quarter-length a b one r d ea h l er =
     let fits : b - a ≤ length (drop-list a d) = omega (arith, length-drop a d) in
     length-take-le (b - a) (drop-list a d) fits ∙ omega arith
 
-pub quarter-data : (p : Profile) (i a b one : ℕ) (d : List ℕ) → a ≡ b - one → one ≤ b → b ≤ length d → one ≡ room p i → a ≡ data-start p i
-    → (q : ℕ) → q < room p i → bytes (take (b - a) (drop-list a d)) q ≡ bytes d (data-start p i + q)
+pub quarter-data : (p : Profile) (i a b one : ℕ) (d : List ℕ) → a ≡ b - one → one ≤ b → b ≤ length d → one ≡ data-length p i → a ≡ data-start p i
+    → (q : ℕ) → q < data-length p i → bytes (take (b - a) (drop-list a d)) q ≡ bytes d (data-start p i + q)
 quarter-data p i a b one d ea h l er es = part-data p i a (b - a) d es (omega arith) (omega arith)

@@ -6,7 +6,7 @@ ghost use Rattle.field.specs.Field.{α, _⊙_, pow, of};
 ghost use Rattle.series.specs.Series.{K, _⊞_, _⊠_};
 ghost use Rattle.series.specs.Shift.{cut, drop};
 ghost use Rattle.series.specs.Array.{bytes};
-ghost use Rattle.profile.specs.Definition.{checks as Checks, room as Room};
+ghost use Rattle.profile.specs.Definition.{checks as Checks, data-length as DataLength};
 ghost use Rattle.divider.specs.GeneratorTable.{Table};
 ghost use Rattle.code.specs.Triangle.{carried as Carried, corner as Corner};
 ghost use Rattle.block.specs.Parts.{Fits};
@@ -103,7 +103,7 @@ fn fill(t: &[u64], k: usize, e: &[u8], input: &[u8], word: &mut [u8])
 
 // Subword i, once those above it are written.
 pub fn write_subword(p: Profile, t: &[u64], i: usize, input: &[u8], out: &mut [u8])
-    requires { ⌜ Fits p (now out) × (i < p .subwords) × Table 0 (Checks p i) (now t) × (length (now input) ≡ Room p i) ⌝ }
+    requires { ⌜ Fits p (now out) × (i < p .subwords) × Table 0 (Checks p i) (now t) × (length (now input) ≡ DataLength p i) ⌝ }
     ensures { λ _. ⌜ Wrote p (bytes (now (input .entry))) i (bytes (now (out .entry))) (bytes (now (out .exit))) ⌝ }
 {
     let n = p.length as usize;

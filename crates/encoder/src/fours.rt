@@ -1,11 +1,11 @@
-// Four subwords at a turn, nothing being carried to them: their remainders are found together, in little more than the time of one.
+// Four subwords at a time, nothing being carried to them: their remainders are found together, in little more than the time of one.
 ghost use Prim.Native.Nat.{_+_, _≤_, _<_};
 ghost use mathlib.Core.Path.{_≡_};
 ghost use lib.ListN.{length};
 ghost use Rattle.series.specs.Series.{_⊞_, _⊠_};
 ghost use Rattle.series.specs.Shift.{zpow};
 ghost use Rattle.series.specs.Array.{bytes};
-ghost use Rattle.profile.specs.Definition.{checks as Checks, room as Room};
+ghost use Rattle.profile.specs.Definition.{checks as Checks, data-length as DataLength};
 ghost use Rattle.divider.specs.GeneratorTable.{Table};
 ghost use Rattle.block.specs.Parts.{Fits};
 ghost use Rattle.encoder.specs.CarrySubword.{Wrote};
@@ -52,7 +52,7 @@ fn remainders(t: &[u64], n: usize, k: usize, a: &[u8], b: &[u8], c: &[u8], d: &[
 
 // Subword i, r being the remainder of its data.
 fn write_known(p: Profile, k: usize, r: &[u8], i: usize, input: &[u8], out: &mut [u8])
-    requires { ⌜ Fits p (now out) × (p .nested ≤ i) × (i < p .subwords) × (k ≡ Checks p i) × (length (now input) ≡ Room p i) × Known (p .length) k (now input) (now r) ⌝ }
+    requires { ⌜ Fits p (now out) × (p .nested ≤ i) × (i < p .subwords) × (k ≡ Checks p i) × (length (now input) ≡ DataLength p i) × Known (p .length) k (now input) (now r) ⌝ }
     ensures { λ _. ⌜ Wrote p (bytes (now (input .entry))) i (bytes (now (out .entry))) (bytes (now (out .exit))) ⌝ }
 {
     let n = p.length as usize;
@@ -75,8 +75,8 @@ pub fn write_four(
     d: &[u8],
     out: &mut [u8],
 )
-    requires { ⌜ Fits p (now out) × (p .nested ≤ i) × (i + 4 ≤ p .subwords) × Table 0 (Checks p i) (now t) × (length (now a) ≡ Room p i)
-        × (length (now b) ≡ Room p i) × (length (now c) ≡ Room p i) × (length (now d) ≡ Room p i) ⌝ }
+    requires { ⌜ Fits p (now out) × (p .nested ≤ i) × (i + 4 ≤ p .subwords) × Table 0 (Checks p i) (now t) × (length (now a) ≡ DataLength p i)
+        × (length (now b) ≡ DataLength p i) × (length (now c) ≡ DataLength p i) × (length (now d) ≡ DataLength p i) ⌝ }
     ensures { λ _. ⌜ WroteFour p (bytes (now (a .entry))) (bytes (now (b .entry))) (bytes (now (c .entry))) (bytes (now (d .entry))) i (bytes (now (out .entry)))
         (bytes (now (out .exit))) ⌝ }
 {

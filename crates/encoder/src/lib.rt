@@ -46,7 +46,7 @@ fn questions(profile: &[u8], input: usize, output: usize) -> Parsed
     }
 }
 
-// Writes four subwords at a turn, while so many are left that nothing is carried to.
+// Writes four subwords at a time, while so many are left that nothing is carried to.
 fn write_fours(p: Profile, t: &[u64], k: usize, input: &[u8], out: &mut [u8]) -> Left
     requires { ⌜ Fits p (now out) × (length (now input) ≡ DataSize p) × (k ≡ Checks p (p .nested)) × Table 0 k (now t) ⌝ }
     ensures { λ r. ⌜ (r .subwords ≤ p .subwords) × (r .symbols ≡ data-start p (r .subwords))
@@ -86,7 +86,7 @@ fn write(p: Profile, input: &[u8], out: &mut [u8])
     ensures { λ _. ⌜ Encodes p (bytes (now (input .entry))) (bytes (now (out .exit))) ⌝ }
 {
     let n = p.length as usize;
-    let mut t = divider::generator::room();
+    let mut t = divider::generator::blank();
     let mut made = p.checks(p.nested) as usize;
     divider::generator::table(0, made, &mut t);
     let left = write_fours(p, &t, made, input, out);

@@ -20,7 +20,7 @@ use Rattle.profile.specs.declared.Answer.{Answer}
 use Rattle.profile.specs.declared.Answer.the-variants as answer
 use Rattle.profile.specs.Definition.{profile-of, answer-of, block-size, data-size}
 use Rattle.profile.specs.Laws.{ask-yes}
-use Rattle.profile.specs.Valid.{Valid, profile-valid, checks-room, data-start-most}
+use Rattle.profile.specs.Valid.{Valid, profile-valid, checks-below, data-start-most}
 use Rattle.profile.specs.LayoutDefinition.{if-accepted, start}
 use Rattle.profile.specs.FetchDefinition.{fetching, part, empty, refuses}
 use Rattle.solver.specs.declared.Form.{Form}
@@ -35,10 +35,10 @@ use Rattle.gii.specs.Definition.{Stands, form-of, numbers}
 
 module _ (p : Profile) (ok : Valid p) where
   pub data-some : 0 < data-size p
-  data-some = omega (arith, checks-room p ok 0, data-start-most p ok 1 (ok .subwords .0))
+  data-some = omega (arith, checks-below p ok 0, data-start-most p ok 1 (ok .subwords .0))
 
   pub block-some : 0 < block-size p
-  block-some = omega (arith, checks-room p ok 0, mul-le-mul-right (p .length) (ok .subwords .0), one-mul (p .length))
+  block-some = omega (arith, checks-below p ok 0, mul-le-mul-right (p .length) (ok .subwords .0), one-mul (p .length))
 
 -- n is a byte
 pub size-refuses : (f : Profile → ℕ) → ((p : Profile) → Valid p → 0 < f p) → (b : List ℕ) → getD b 2 0 < 256

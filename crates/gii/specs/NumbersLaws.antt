@@ -10,7 +10,7 @@ use native.Mathlib.Omega.{arith}
 use lib.ListN.{length, getD, set, take, drop, length-set, length-append, length-drop, drop-of-length-le}
 use lib.Seq.{take-all, take-suc-set, length-take-le}
 use Rattle.staged_decoding.specs.Definition.{Line}
-use Rattle.stages.specs.declared.subword.Line as turn
+use Rattle.stages.specs.declared.subword.Line as stored
 use Rattle.stages.specs.SubwordDefinition.{verdict-of}
 use Rattle.stages.specs.View.{says}
 use Rattle.stages.specs.Lines.{has, says-at}
@@ -48,7 +48,7 @@ put-three list x k h e = three list k (getD x 0 0) (getD x 1 0) (getD x 2 0) h �
 pub lines-none : (f : ℕ → Line) (l : List ℕ) → take (4 + 3 * 0) l ≡ take 4 l ++ lines-numbers 0 f
 lines-none f l = sym (append-nil (take 4 l))
 
-pub lines-more : (lines : List turn.Line) (h list next x : List ℕ) (i : ℕ) (d : turn.Line) → i < length lines
+pub lines-more : (lines : List stored.Line) (h list next x : List ℕ) (i : ℕ) (d : stored.Line) → i < length lines
     → take (4 + 3 * i) list ≡ h ++ lines-numbers i (says lines) → x ≡ line-numbers (verdict-of (getD lines i d .verdict))
     → take (4 + 3 * i + 3) next ≡ take (4 + 3 * i) list ++ x → take (4 + 3 * (i + 1)) next ≡ h ++ lines-numbers (i + 1) (says lines)
 lines-more lines h list next x i d below is line put =

@@ -1,4 +1,4 @@
 pub mod Store
 pub mod Power
-pub mod Row
+pub mod ProductRow
 pub mod ByteMultiply

@@ -8,7 +8,7 @@ ghost use Rattle.series.specs.Shift.{zpow, cut};
 ghost use Rattle.series.specs.Degree.{below};
 ghost use Rattle.series.specs.Value.{value};
 ghost use Rattle.series.specs.Array.{bytes};
-ghost use Rattle.kernel.specs.Row.{products, factor, Row};
+ghost use Rattle.kernel.specs.ProductRow.{products, factor, ProductRow};
 use field::Gf;
 
 // The entries from w to 2w - 1: those below w, each with top added.
@@ -40,7 +40,7 @@ pub fn product_row(c: Gf) -> [u8; 256]
 
 // The value of a word at the row's factor, by Horner's rule from the last symbol: one lookup a symbol.
 pub fn value(row: &[u8], word: &[u8]) -> Gf
-    requires { ⌜ Row (now row) ⌝ }
+    requires { ⌜ ProductRow (now row) ⌝ }
     ensures { λ r. ⌜ val r ≡ value (length (now (word .entry))) (bytes (now (word .entry))) (factor (now (row .entry))) ⌝ }
 {
     let mut v: u8 = 0;
@@ -54,7 +54,7 @@ pub fn value(row: &[u8], word: &[u8]) -> Gf
 
 // The row's factor times one word is added to another: one lookup a symbol.
 pub fn add_multiple(row: &[u8], from: &[u8], to: &mut [u8])
-    requires { ⌜ Row (now row) × (length (now from) ≡ length (now to)) ⌝ }
+    requires { ⌜ ProductRow (now row) × (length (now from) ≡ length (now to)) ⌝ }
     ensures { λ _. ⌜ bytes (now (to .exit)) ≡ bytes (now (to .entry)) ⊞ K (factor (now (row .entry))) ⊠ bytes (now (from .entry)) ⌝ }
 {
     let mut i: usize = 0;

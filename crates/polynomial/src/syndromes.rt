@@ -8,7 +8,7 @@ ghost use Rattle.series.specs.Array.{bytes};
 ghost use Rattle.series.specs.Decide.{holds};
 ghost use Rattle.polynomial.specs.Polynomial.{poly, row as Row};
 ghost use Rattle.polynomial.specs.SyndromesZero.{zero?};
-ghost use Rattle.polynomial.specs.SyndromesTurned.{turned as Turned};
+ghost use Rattle.polynomial.specs.SyndromesReversed.{reversed as Reversed};
 use crate::COEFFICIENTS;
 use crate::SYNDROMES;
 use field::Gf;
@@ -17,7 +17,7 @@ use field::Gf;
 const HIGHEST: usize = 95;
 
 // Room for 49 entries from any index up to HIGHEST on.
-const TURNED: usize = 144;
+const REVERSED: usize = 144;
 
 // Zero past the table's end.
 pub fn coefficient(s: [Gf; SYNDROMES], i: usize) -> Gf
@@ -30,10 +30,10 @@ pub fn coefficient(s: [Gf; SYNDROMES], i: usize) -> Gf
 }
 
 // The syndromes from 95 down, 48 zeros and S_47 to S_0, then zeros: coefficient r of a product reads them from index 95 - r on.
-pub fn turned(s: [Gf; SYNDROMES]) -> [u8; TURNED]
-    ensures { λ t. ⌜ bytes t ≡ Turned 95 (Row s) ⌝ }
+pub fn reversed(s: [Gf; SYNDROMES]) -> [u8; REVERSED]
+    ensures { λ t. ⌜ bytes t ≡ Reversed 95 (Row s) ⌝ }
 {
-    let mut down = [0u8; TURNED];
+    let mut down = [0u8; REVERSED];
     let mut i: usize = SYNDROMES;
     while i <= HIGHEST {
         let g = s[HIGHEST - i];
@@ -44,7 +44,7 @@ pub fn turned(s: [Gf; SYNDROMES]) -> [u8; TURNED]
 }
 
 // The products of coefficients with entries from `at` on, many at a time.
-fn products(f: [Gf; COEFFICIENTS], t: &[u8; TURNED], at: usize) -> [Gf; COEFFICIENTS]
+fn products(f: [Gf; COEFFICIENTS], t: &[u8; REVERSED], at: usize) -> [Gf; COEFFICIENTS]
     requires { ⌜ at ≤ 95 ⌝ }
     ensures { λ r. ⌜ poly r ≡ (λ i. poly f i ⊙ bytes (now (t .entry)) (at + i)) ⌝ }
 {
@@ -58,9 +58,9 @@ fn products(f: [Gf; COEFFICIENTS], t: &[u8; TURNED], at: usize) -> [Gf; COEFFICI
     out
 }
 
-// Coefficient r of the product with the series that t has turned.
-pub fn convolve_turned(f: [Gf; COEFFICIENTS], t: &[u8; TURNED], r: usize) -> Gf
-    ensures { λ d. ⌜ ((g : Series) → below 48 g → bytes (now (t .entry)) ≡ Turned 95 g → val d ≡ (poly f ⊠ g) r) ⌝ }
+// Coefficient r of the product with the series that t has reversed.
+pub fn convolve_reversed(f: [Gf; COEFFICIENTS], t: &[u8; REVERSED], r: usize) -> Gf
+    ensures { λ d. ⌜ ((g : Series) → below 48 g → bytes (now (t .entry)) ≡ Reversed 95 g → val d ≡ (poly f ⊠ g) r) ⌝ }
 {
     if r > HIGHEST {
         return Gf::ZERO;
@@ -79,8 +79,8 @@ pub fn convolve_turned(f: [Gf; COEFFICIENTS], t: &[u8; TURNED], r: usize) -> Gf
 pub fn convolve(f: [Gf; COEFFICIENTS], s: [Gf; SYNDROMES], r: usize) -> Gf
     ensures { λ d. ⌜ val d ≡ (poly f ⊠ Row s) r ⌝ }
 {
-    let t = turned(s);
-    convolve_turned(f, &t, r)
+    let t = reversed(s);
+    convolve_reversed(f, &t, r)
 }
 
 // Whether a table is zero: the pattern of zeros settles its subword, and no solver is needed.

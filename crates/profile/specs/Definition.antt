@@ -128,10 +128,10 @@ data-size p = block-size p - 2 * capability-sum p (p .nested) - 2 * ((p .subword
 -- ---- positions
 
 -- Positions below `checks p i` of subword i hold its check symbols, those from there on its data: "They are its first places; the others are data places."
-abbrev pub room : Profile → ℕ → ℕ
-room p i = p .length - checks p i
+abbrev pub data-length : Profile → ℕ → ℕ
+data-length p i = p .length - checks p i
 
 -- "Data fills them strip by strip, places rising": position `checks p i + q` of subword i holds data symbol `data-start p i + q`
 abbrev pub data-start : Profile → ℕ → ℕ
 data-start p zero = 0
-data-start p (suc i) = data-start p i + room p i
+data-start p (suc i) = data-start p i + data-length p i

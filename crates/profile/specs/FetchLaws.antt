@@ -18,12 +18,12 @@ use Rattle.profile.specs.declared.Refusal.the-variants.{InputSize, Subwo
 use Rattle.profile.specs.declared.Parsed.the-variants.{Accepted}
 use Rattle.profile.specs.Definition.{profile-of, ask, block-size, checks}
 use Rattle.profile.specs.Laws.{ask-yes}
-use Rattle.profile.specs.Valid.{profile-read, profile-valid, checks-room}
+use Rattle.profile.specs.Valid.{profile-read, profile-valid, checks-below}
 use Rattle.profile.specs.FetchDefinition.{fetching, between, part, empty}
 
 pub record Within (p : Profile) (s i : ℕ) : Type 0 where
   pub subword : i < p .subwords
-  pub room : checks p i < p .length
+  pub some : checks p i < p .length
   pub size : s ≡ block-size p
 
 -- n is a byte
@@ -33,7 +33,7 @@ accepted b s i p e small =
     let (e2, size) = ask-yes (λ p. eqb s (block-size p)) InputSize (profile-of b) p e1 in
     record {
       subword = ltb-true i (p .subwords) below;
-      room = checks-room p (profile-valid b p e2 (rw (ap (λ q. q .length) (profile-read b p e2)) small)) i;
+      some = checks-below p (profile-valid b p e2 (rw (ap (λ q. q .length) (profile-read b p e2)) small)) i;
       size = eqb-true s (block-size p) size;
     }
 

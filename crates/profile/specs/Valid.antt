@@ -146,8 +146,8 @@ module _ (p : Profile) (ok : Valid p) where
   pub checks-most : (i : ℕ) → checks p i ≤ 48
   checks-most i = omega (arith, checks-last i, ok .most)
 
-  pub checks-room : (i : ℕ) → checks p i < p .length
-  checks-room i = omega (arith, checks-last i, ok .length .0)
+  pub checks-below : (i : ℕ) → checks p i < p .length
+  checks-below i = omega (arith, checks-last i, ok .length .0)
 
   -- ---- the data size
 
@@ -159,7 +159,7 @@ module _ (p : Profile) (ok : Valid p) where
       let ih : data-start p i + 2 * capability-sum p (p .nested) ≡ i * p .length + 2 * capability-sum p (suc (p .nested - suc i)) =
       start-low i (omega arith) ∙ rw e in
       let c : checks p i ≡ 2 * capability p (suc (p .nested - suc i)) = checks-is p i ∙ rw e in
-      omega (arith, ih, c, checks-room i, suc-mul i (p .length))
+      omega (arith, ih, c, checks-below i, suc-mul i (p .length))
 
   -- and k subwords more
   start-high : (k : ℕ) → data-start p (p .nested + k) + 2 * capability-sum p (p .nested) + 2 * (k * p .t0) ≡ (p .nested + k) * p .length
@@ -168,7 +168,7 @@ module _ (p : Profile) (ok : Valid p) where
       rw add-zero (omega (arith, rw e at (start-low (p .nested) (omega arith)), zero-mul (p .t0)))
   start-high (suc k) =
       let c : checks p (p .nested + k) ≡ 2 * p .t0 = checks-high p (p .nested + k) (omega arith) in
-      rw add-suc (omega (arith, start-high k, c, checks-room (p .nested + k), suc-mul (p .nested + k) (p .length), suc-mul k (p .t0)))
+      rw add-suc (omega (arith, start-high k, c, checks-below (p .nested + k), suc-mul (p .nested + k) (p .length), suc-mul k (p .t0)))
 
   -- "The data size" counts the data positions
   pub data-size-is : data-start p (p .subwords) ≡ data-size p

@@ -12,7 +12,7 @@ use card::section::Section;
 use listing::LINE;
 
 // Room for a section.
-fn room() -> [u8; SECTION] {
+fn blank() -> [u8; SECTION] {
     [0u8; SECTION]
 }
 
@@ -27,7 +27,7 @@ fn table() -> [u64; TABLE] {
 }
 
 // Reads the section that comes next, prints its line, and tells what comes then.
-fn turn(s: Section, t: &mut [u64; TABLE], u: &mut [u64; TABLE], bytes: &mut [u8]) -> Section
+fn step(s: Section, t: &mut [u64; TABLE], u: &mut [u64; TABLE], bytes: &mut [u8]) -> Section
     requires { ⌜ Kept s (now t) (now u) ⌝ }
     ensures { λ r. ⌜ (over s ≡ false → left r < left s) ⌝ }
     ensures kept { λ r. ⌜ Kept r (now (t .exit)) (now (u .exit)) ⌝ }
@@ -41,13 +41,13 @@ fn turn(s: Section, t: &mut [u64; TABLE], u: &mut [u64; TABLE], bytes: &mut [u8]
 }
 
 fn main() {
-    let mut bytes = room();
+    let mut bytes = blank();
     let mut t = table();
     let mut u = table();
     let mut s = Section::Size;
     while !card::section::is_over(s) {
         let n = card::section::wanted(s);
-        let next = turn(s, &mut t, &mut u, &mut bytes[..n]);
+        let next = step(s, &mut t, &mut u, &mut bytes[..n]);
         s = next;
     }
 }

@@ -67,8 +67,8 @@ module _ (Λ Ω : Series) (p : ℕ) (small : p < 255) (nonzero : Λ 0 ≢ 𝟎) 
   apart : (q : ℕ) → q < p → value 2 Λ (W q) ≢ 𝟎
   apart q h z =
       let e : Λ 0 ≡ Λ 1 ⊙ W q = ⊕-equal _ _ (sym (two-terms Λ (W q)) ∙ z) in
-      let turn : X q ⊙ (Λ 1 ⊙ W q) ≡ X q ⊙ W q ⊙ Λ 1 = simp ⊙-ring in
-      let same : Λ 0 ⊙ X q ≡ Λ 0 ⊙ X p = ⊙-comm (Λ 0) (X q) ∙ ap (λ t. X q ⊙ t) e ∙ turn ∙ rw X-W (⊙-comm 𝟏 (Λ 1) ∙ ⊙-one (Λ 1)) ∙ sym place ∙ ⊙-comm _ _ in
+      let swapped : X q ⊙ (Λ 1 ⊙ W q) ≡ X q ⊙ W q ⊙ Λ 1 = simp ⊙-ring in
+      let same : Λ 0 ⊙ X q ≡ Λ 0 ⊙ X p = ⊙-comm (Λ 0) (X q) ∙ ap (λ t. X q ⊙ t) e ∙ swapped ∙ rw X-W (⊙-comm 𝟏 (Λ 1) ∙ ⊙-one (Λ 1)) ∙ sym place ∙ ⊙-comm _ _ in
       let is : q ≡ p = power-inj q p (omega arith) small (⊙-cancel (Λ 0) nonzero same) in
       omega arith
 

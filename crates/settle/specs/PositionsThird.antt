@@ -23,7 +23,7 @@ use Rattle.series.specs.Shift.{cut, cut-low, cut-unique}
 use Rattle.series.specs.Degree.{below}
 use Rattle.series.specs.Value.{value, value-cong}
 use Rattle.series.specs.Array.{bytes, read-at, below-read, read-set-same, read-set-other}
-use Rattle.kernel.specs.Row.{Row, factor, row-at}
+use Rattle.kernel.specs.ProductRow.{ProductRow, factor, row-at}
 use Rattle.settling.specs.Locator.{W, W-is}
 use Rattle.settle.specs.PositionsTerm.{W-zero, W-add, terms, terms-at, terms-add, value-terms}
 
@@ -61,9 +61,9 @@ thirds (suc m) f =
     ∙ rw (sum-suc, sum-suc, sum-suc, thirds m f, third-suc 0 m f, third-suc 1 m f, third-suc 2 m f, d, d1, d2) (simp ⊕-group)
 
 -- by a third root of one
-turned : (a m : ℕ) (w : F) (f : Series) → pow w 3 ≡ 𝟏 → third a m (terms w f) ≡ pow w a ⊙ third a m f
+rotated : (a m : ℕ) (w : F) (f : Series) → pow w 3 ≡ 𝟏 → third a m (terms w f) ≡ pow w a ⊙ third a m f
 unfolding third
-turned a m w f h = sum-cong m _ _ (λ j _. term j) ∙ sym (⊙-sum (pow w a) m _)
+rotated a m w f h = sum-cong m _ _ (λ j _. term j) ∙ sym (⊙-sum (pow w a) m _)
   where
     factor : (j : ℕ) → pow w (3 * j + a) ≡ pow w a
     factor j = pow-add w (3 * j) a ∙ ap (λ t. t ⊙ pow w a) (pow-mul w 3 j ∙ ap (λ t. pow t j) h ∙ one-pow j) ∙ one-⊙ _
@@ -85,7 +85,7 @@ value-three k p q r f g a b c low h root is at ea eb ec =
     ∙ value-terms k 27 f (W (p + q)) low h
     ∙ ap (sum 27) (sym (ap (terms (W q)) at ∙ terms-add p q f))
     ∙ thirds 9 (terms (W q) g)
-    ∙ rw (turned 0 9 (W q) g root, turned 1 9 (W q) g root, turned 2 9 (W q) g root, pow-zero, pow-one, pow-two) (simp ⊙-ring))
+    ∙ rw (rotated 0 9 (W q) g root, rotated 1 9 (W q) g root, rotated 2 9 (W q) g root, pow-zero, pow-one, pow-two) (simp ⊙-ring))
 
 -- ---- third roots of one
 
@@ -118,7 +118,7 @@ square = ⊕-equal _ _ (⊙-factor (w ⊕ 𝟏) _ apart (product ∙ ap (λ t. t
     product = simp ⊙-ring
 
 -- a product by a lookup
-pub product-at : (l : List ℕ) (w : F) (x i : ℕ) → Row l → factor l ≡ w → i ≡ x → i < 256 → of (getD l i 0) ≡ w ⊙ of x
+pub product-at : (l : List ℕ) (w : F) (x i : ℕ) → ProductRow l → factor l ≡ w → i ≡ x → i < 256 → of (getD l i 0) ≡ w ⊙ of x
 product-at l w x i p e is h = sym (read-at of 0 l i) ∙ row-at l i p h ∙ ap₂ _⊙_ e (ap of is)
 
 module _ (a b c : F) where

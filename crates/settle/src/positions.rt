@@ -11,7 +11,7 @@ ghost use Rattle.series.specs.Degree.{below};
 ghost use Rattle.series.specs.Value.{value};
 ghost use Rattle.series.specs.Array.{bytes};
 ghost use Rattle.polynomial.specs.Polynomial.{poly};
-ghost use Rattle.kernel.specs.Row.{factor, Row};
+ghost use Rattle.kernel.specs.ProductRow.{factor, ProductRow};
 ghost use Rattle.settling.specs.Locator.{W};
 ghost use Rattle.settle.specs.PositionsTerm.{terms};
 ghost use Rattle.settle.specs.PositionsExponent.{symbol, symbols, Table, Steps};
@@ -67,7 +67,7 @@ fn step(e: u8, i: usize) -> u8
     i as u8
 }
 
-// Of k terms, and nothing after them. A loop over all 32 would be unrolled, and what it makes put together from pieces again at every turn of
+// Of k terms, and nothing after them. A loop over all 32 would be unrolled, and what it makes put together from pieces again in every pass of
 // `values`.
 fn steps(e: [u8; TERMS], k: usize) -> [u8; TERMS]
     requires { ⌜ (k ≤ 32) × below k (symbols e) ⌝ }
@@ -137,7 +137,7 @@ fn sums(power: &[u8; 256], e: &[u8; TERMS], k: usize) -> Three
 
 // The values at three positions from the sums at the first of them: with w = W 85, w·w is w + 1, so two products are enough.
 fn spread(row: &[u8; 256], s: Three) -> Three
-    requires { ⌜ Row (now row) × (factor (now row) ≡ W 85) ⌝ }
+    requires { ⌜ ProductRow (now row) × (factor (now row) ≡ W 85) ⌝ }
     ensures { λ r. ⌜ (of (r .a) ≡ three (W 0) (of (s .a)) (of (s .b)) (of (s .c))) ×
         (of (r .b) ≡ three (W 85) (of (s .a)) (of (s .b)) (of (s .c))) ×
         (of (r .c) ≡ three (W 170) (of (s .a)) (of (s .b)) (of (s .c))) ⌝ }

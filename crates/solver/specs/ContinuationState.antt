@@ -25,7 +25,7 @@ use Rattle.key_equation.specs.Ends.{finish, finish-is, joined-append}
 use Rattle.solver.specs.declared.Form.{Form}
 use Rattle.solver.specs.declared.Form.the-variants.{Plain, Lookahead, Scaled}
 use Rattle.solver.specs.declared.Solver.{Solver}
-use Rattle.solver.specs.Solver.{form-of, state-of, Is, clip, turn, turns, clip-run}
+use Rattle.solver.specs.Solver.{form-of, state-of, Is, clip, iterate-clipped, iterated, clip-run}
 use Rattle.solver.specs.ContinuationDefinition.{Ended, Next}
 
 -- ---- the state
@@ -135,27 +135,27 @@ module _ (rounds : List (List F)) (round : List F) (u v : ℕ) (S : Series) (nex
         goes : Is f u p (form-of f .enter u S (state f u known))
         goes = enters f _ (ended-reached f rounds u S (next .from) s h)
 
-    -- nothing is lost, turn after turn
-    turns-state : (n : ℕ) → u + n ≤ v → turns (turn f S) u n (state f u S) ≡ state f (u + n) S
-    unfolding turns
-    turns-state zero h = let e : u ≡ u + 0 = omega arith in ap (λ n. state f n S) e
-    turns-state (suc n) h =
+    -- nothing is lost, iteration after iteration
+    iterated-state : (n : ℕ) → u + n ≤ v → iterated (iterate-clipped f S) u n (state f u S) ≡ state f (u + n) S
+    unfolding iterated
+    iterated-state zero h = let e : u ≡ u + 0 = omega arith in ap (λ n. state f n S) e
+    iterated-state (suc n) h =
         let e : suc (u + n) ≡ u + suc n = omega arith in
-        ap (turn f S (u + n)) (turns-state n (omega arith)) ∙ ap (clip f) (state-iterate f (u + n) S) ∙ whole ∙ ap (λ n. state f n S) e
+        ap (iterate-clipped f S (u + n)) (iterated-state n (omega arith)) ∙ ap (clip f) (state-iterate f (u + n) S) ∙ whole ∙ ap (λ n. state f n S) e
       where
         whole : clip f (state f (suc (u + n)) S) ≡ state f (suc (u + n)) S
         whole =
             subst (λ S. clip f (state f (suc (u + n)) S) ≡ state f (suc (u + n)) S) (entry-whole v S (next .past))
             (state-whole f (word v S) (suc (u + n)) (omega (arith, length-word v S)) (omega (arith, length-word v S, next .few)))
 
-    pub reached-run : (s : Solver) → ((f : Form) (m : form-of f .State) → Is f u s m → Is f (u + (v - u)) p (turns (turn f S) u (v - u) m))
+    pub reached-run : (s : Solver) → ((f : Form) (m : form-of f .State) → Is f u s m → Is f (u + (v - u)) p (iterated (iterate-clipped f S) u (v - u) m))
         → Reached f u S s → Reached f v S p
-    reached-run s runs h = subst (λ n. Reached f n S p) at (goes .0, goes .1 ∙ turns-state (v - u) (omega (arith, next-rising)))
+    reached-run s runs h = subst (λ n. Reached f n S p) at (goes .0, goes .1 ∙ iterated-state (v - u) (omega (arith, next-rising)))
       where
         at : u + (v - u) ≡ v
         at = omega (arith, next-rising)
 
-        goes : Is f (u + (v - u)) p (turns (turn f S) u (v - u) (state f u S))
+        goes : Is f (u + (v - u)) p (iterated (iterate-clipped f S) u (v - u) (state f u S))
         goes = runs f _ h
 
     pub reached-end : Reached f v S p → Ended f (rounds ++ (round ∷ [])) p

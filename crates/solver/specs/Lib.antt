@@ -1,7 +1,7 @@
 pub mod Solver
 pub mod SwapStep
 pub mod SwapSigned
-pub mod SwapTurns
+pub mod SwapIterations
 -- plain: The view is what the promises speak of; the other proves them.
 pub mod PlainView
 pub mod PlainStep
@@ -11,10 +11,10 @@ pub mod LookaheadStep
 -- scaled: The view is what the promises speak of; the other proves them.
 pub mod ScaledView
 pub mod ScaledStep
--- rounds: RoundsRun has the definitions that the promises speak of, with Rounds; RoundsTurn proves them.
+-- rounds: RoundsRun has the definitions that the promises speak of, with Rounds; RoundsEvent proves them.
 pub mod Rounds
 pub mod RoundsRun
-pub mod RoundsTurn
+pub mod RoundsEvent
 -- continuation: ContinuationDefinition is what the promises speak of; ContinuationState and ContinuationEnd prove them. A caller cites ContinuationEnd for the length, and ContinuationStages for the stages of a subword.
 pub mod ContinuationDefinition
 pub mod ContinuationState

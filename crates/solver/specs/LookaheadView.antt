@@ -2,7 +2,7 @@
 --
 --   lookahead r p      the state of the definitions that p stands for, after r iterations
 --   clip-lookahead s   s with the first 49 coefficients of its polynomials: all that an array holds
---   turn-lookahead     an iteration in 49 coefficients
+--   iterate-lookahead     an iteration in 49 coefficients
 use Prim.Native.Nat.{ℕ}
 use Rattle.field.specs.Field.{val}
 use Rattle.series.specs.Series.{Series}
@@ -46,5 +46,5 @@ clip-lookahead s = record {
   h2 = s .h2;
 }
 
-abbrev pub turn-lookahead : Series → ℕ → Lookahead.State → Lookahead.State
-turn-lookahead S r m = clip-lookahead (Lookahead.iterate r S m)
+abbrev pub iterate-lookahead : Series → ℕ → Lookahead.State → Lookahead.State
+iterate-lookahead S r m = clip-lookahead (Lookahead.iterate r S m)

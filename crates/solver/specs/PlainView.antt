@@ -2,7 +2,7 @@
 --
 --   plain r p      the state of the definitions that p stands for, after r iterations
 --   clip-plain s   s with the first 49 coefficients of its polynomials: all that an array holds
---   turn-plain     an iteration in 49 coefficients
+--   iterate-plain     an iteration in 49 coefficients
 use Prim.Native.Nat.{ℕ}
 use Rattle.field.specs.Field.{val}
 use Rattle.series.specs.Series.{Series}
@@ -18,5 +18,5 @@ plain r p = record { Λ = poly (p .locator); B = poly (p .auxiliary); γ = val (
 unfoldable pub clip-plain : Plain.State → Plain.State
 clip-plain s = record { Λ = cut 49 (s .Λ); B = cut 49 (s .B); γ = s .γ; k = s .k }
 
-abbrev pub turn-plain : Series → ℕ → Plain.State → Plain.State
-turn-plain S r m = clip-plain (Plain.iterate r S m)
+abbrev pub iterate-plain : Series → ℕ → Plain.State → Plain.State
+iterate-plain S r m = clip-plain (Plain.iterate r S m)

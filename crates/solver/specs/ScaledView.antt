@@ -2,7 +2,7 @@
 --
 --   scaled r p                the state of the definitions that p stands for, after r iterations
 --   clip-scaled s             s with the first 49 coefficients of its polynomials: all that an array holds
---   turn-scaled               an iteration in 49 coefficients
+--   iterate-scaled               an iteration in 49 coefficients
 --   Products-of s a b c e     a, b, c and e are the products of an iteration of s, clipped: ρ_S Λ, ξ_S zB, ρ Δ/z and ξ Θ
 --   stepped r S a b c e y t   the state for iteration r, from the products of the one before: B becomes y, and Θ becomes t with y added unless S_r = 0
 use Prim.Native.Nat.{ℕ}
@@ -46,8 +46,8 @@ clip-scaled s = record {
   ξS = s .ξS;
 }
 
-abbrev pub turn-scaled : Series → ℕ → State → State
-turn-scaled S r m = clip-scaled (iterate r S m)
+abbrev pub iterate-scaled : Series → ℕ → State → State
+iterate-scaled S r m = clip-scaled (iterate r S m)
 
 pub record Products-of (s : State) (a b c e : Series) : Type 0 where
   pub a-is : a ≡ cut 49 (K (s .ρS) ⊠ s .Λ)

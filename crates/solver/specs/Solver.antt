@@ -5,7 +5,7 @@
 --   Is f r s m        s is a solver in the form f, in the state m after r iterations
 --   k-in f m          k of such a state
 --   clip f m          m with the first 49 coefficients of its polynomials: all that an array holds
---   turn f S r m      m after iteration r over S, clipped
+--   iterate-clipped f S r m      m after iteration r over S, clipped
 --
 -- Proved: what holds in the form that a solver has, holds in the form that it is said to have (for-form); a run of at most 48 syndromes loses
 -- nothing by clip (clip-run).
@@ -25,7 +25,7 @@ use Rattle.solver.specs.declared.scaled.Scaled.{Scaled as ScaledSolver}
 use Rattle.solver.specs.PlainView.{plain, clip-plain}
 use Rattle.solver.specs.LookaheadView.{lookahead, clip-lookahead}
 use Rattle.solver.specs.ScaledView.{scaled, clip-scaled}
-unfoldable pub use Rattle.solver.specs.SwapTurns.{turns}
+unfoldable pub use Rattle.solver.specs.SwapIterations.{iterated}
 use Rattle.solver.specs.declared.Form.{Form}
 use Rattle.solver.specs.declared.Form.the-variants.{Plain, Lookahead, Scaled}
 use Rattle.solver.specs.declared.Solver.{Solver}
@@ -53,8 +53,8 @@ clip Plain = clip-plain
 clip Lookahead = clip-lookahead
 clip Scaled = clip-scaled
 
-abbrev pub turn : (f : Form) → Series → ℕ → form-of f .State → form-of f .State
-turn f S r m = clip f (form-of f .iterate r S m)
+abbrev pub iterate-clipped : (f : Form) → Series → ℕ → form-of f .State → form-of f .State
+iterate-clipped f S r m = clip f (form-of f .iterate r S m)
 
 -- what holds in the form that a solver has, holds in the form that it is said to have
 pub for-form : {g : Form} (P : (f : Form) → form-of f .State → Type 0) (s : Solver) (r : ℕ) → s .form ≡ g → P g (state-of g r s)

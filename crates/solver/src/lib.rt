@@ -10,7 +10,7 @@ ghost use Prim.Native.Nat.{ℕ, _+_, _-_};
 ghost use mathlib.Core.Path.{_≡_};
 ghost use Rattle.polynomial.specs.Polynomial.{row};
 ghost use Rattle.key_equation.specs.Length.{k-of};
-ghost use Rattle.solver.specs.Solver.{form-of, Is, clip, turn, turns, k-in};
+ghost use Rattle.solver.specs.Solver.{form-of, Is, clip, iterate-clipped, iterated, k-in};
 use crate::lookahead::Lookahead;
 use crate::plain::Plain;
 use crate::scaled::Scaled;
@@ -109,7 +109,7 @@ impl Solver {
     // Iterations `from` to `to` - 1, with one look at the form. There is none if `to` is not above `from`.
     pub fn run(self, from: u8, to: u8, s: [Gf; 48]) -> Solver
         ensures { λ p. ⌜ ((f : Form) (m : form-of f .State) → Is f from self m
-            → Is f (from + (to - from)) p (turns (turn f (row s)) from (to - from) m)) ⌝ }
+            → Is f (from + (to - from)) p (iterated (iterate-clipped f (row s)) from (to - from) m)) ⌝ }
     {
         let form = self.form;
         let p = self.plain;

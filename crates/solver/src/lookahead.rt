@@ -9,8 +9,8 @@ ghost use Rattle.polynomial.specs.Polynomial.{poly, row};
 ghost use Rattle.key_equation.specs.Length.{k-of};
 ghost use Rattle.key_equation.specs.Lookahead.{start as Start, enter as Enter, swap as Swap, hold as Hold, iterate as Iterate};
 ghost use Rattle.key_equation.specs.Lookahead.{swapping, next-Λ, next-Δ, next-δS};
-ghost use Rattle.solver.specs.SwapTurns.{turns};
-ghost use Rattle.solver.specs.LookaheadView.{lookahead, clip-lookahead, turn-lookahead};
+ghost use Rattle.solver.specs.SwapIterations.{iterated};
+ghost use Rattle.solver.specs.LookaheadView.{lookahead, clip-lookahead, iterate-lookahead};
 ghost use Rattle.solver.specs.LookaheadStep.{stepped};
 use field::Gf;
 use polynomial::product;
@@ -222,7 +222,7 @@ impl Lookahead {
     }
     // Iterations `from` to `to` - 1. There is none if `to` is not above `from`.
     pub fn run(self, from: u8, to: u8, s: [Gf; 48]) -> Lookahead
-        ensures { λ p. ⌜ lookahead (from + (to - from)) p ≡ turns (turn-lookahead (row s)) from (to - from) (lookahead from self) ⌝ }
+        ensures { λ p. ⌜ lookahead (from + (to - from)) p ≡ iterated (iterate-lookahead (row s)) from (to - from) (lookahead from self) ⌝ }
     {
         let mut p = self;
         let mut r = from;

@@ -5,8 +5,8 @@ ghost use Rattle.field.specs.Field.{val};
 ghost use Rattle.series.specs.Series.{Series};
 ghost use Rattle.polynomial.specs.Polynomial.{row};
 ghost use Rattle.key_equation.specs.Plain.{start as Start, δ, iterate as Iterate};
-ghost use Rattle.solver.specs.SwapTurns.{turns};
-ghost use Rattle.solver.specs.PlainView.{plain, clip-plain, turn-plain};
+ghost use Rattle.solver.specs.SwapIterations.{iterated};
+ghost use Rattle.solver.specs.PlainView.{plain, clip-plain, iterate-plain};
 use field::Gf;
 
 // Λ, B, γ and the length L. After r iterations k is r - 2L.
@@ -71,16 +71,16 @@ impl Plain {
         self.step(r, d)
     }
 
-    // Iterations `from` to `to` - 1, with the table turned once for all of them. There is none if `to` is not above `from`.
+    // Iterations `from` to `to` - 1, with the table reversed once for all of them. There is none if `to` is not above `from`.
     pub fn run(self, from: u8, to: u8, s: [Gf; 48]) -> Plain
-        ensures { λ p. ⌜ plain (from + (to - from)) p ≡ turns (turn-plain (row s)) from (to - from) (plain from self) ⌝ }
+        ensures { λ p. ⌜ plain (from + (to - from)) p ≡ iterated (iterate-plain (row s)) from (to - from) (plain from self) ⌝ }
     {
-        let table = polynomial::syndromes::turned(s);
+        let table = polynomial::syndromes::reversed(s);
         let mut p = self;
         let mut r = from;
         while r < to {
             let f = p.locator;
-            let d = polynomial::syndromes::convolve_turned(f, &table, r as usize);
+            let d = polynomial::syndromes::convolve_reversed(f, &table, r as usize);
             p = p.step(r, d);
             r = r + 1;
         }

@@ -7,7 +7,7 @@ ghost use lib.Dec.{leb};
 ghost use Rattle.series.specs.Word.{entry};
 ghost use Rattle.polynomial.specs.Polynomial.{row};
 ghost use Rattle.solver.specs.RoundsRun.{syndromes-of, rounds-of, Ran};
-ghost use Rattle.solver.specs.RoundsTurn.{Going, Turn};
+ghost use Rattle.solver.specs.RoundsEvent.{Going, Arrived};
 use crate::Form;
 use crate::Solver;
 use field::Gf;
@@ -73,8 +73,8 @@ fn over(w: Walk, lengths: &[u8]) -> bool
 // The next event: an iteration while there are syndromes for one, then the next round's entry.
 fn next(w: Walk, syndromes: &[u8], lengths: &[u8]) -> Walk
     requires { ⌜ Going (length (now lengths)) w ⌝ }
-    ensures { λ q. ⌜ ((form : Form) (n : ℕ) → Turn form (syndromes-of (now (syndromes .entry))) (now (lengths .entry)) n w
-        → Turn form (syndromes-of (now (syndromes .entry))) (now (lengths .entry)) (n + 1) q) ⌝ }
+    ensures { λ q. ⌜ ((form : Form) (n : ℕ) → Arrived form (syndromes-of (now (syndromes .entry))) (now (lengths .entry)) n w
+        → Arrived form (syndromes-of (now (syndromes .entry))) (now (lengths .entry)) (n + 1) q) ⌝ }
 {
     let p = w.progress;
     let solver = p.solver;

@@ -8,8 +8,8 @@ ghost use Rattle.series.specs.Shift.{cut};
 ghost use Rattle.polynomial.specs.Polynomial.{poly, row};
 ghost use Rattle.key_equation.specs.Length.{k-of};
 ghost use Rattle.key_equation.specs.Scaled.{unless, ratio as Ratio, holding as Holding, start as Start, enter as Enter, iterate as Iterate};
-ghost use Rattle.solver.specs.SwapTurns.{turns};
-ghost use Rattle.solver.specs.ScaledView.{scaled, clip-scaled, turn-scaled, Products-of, stepped};
+ghost use Rattle.solver.specs.SwapIterations.{iterated};
+ghost use Rattle.solver.specs.ScaledView.{scaled, clip-scaled, iterate-scaled, Products-of, stepped};
 use field::Gf;
 use polynomial::product;
 use polynomial::syndromes::coefficient;
@@ -228,7 +228,7 @@ impl Scaled {
     }
     // Iterations `from` to `to` - 1. There is none if `to` is not above `from`.
     pub fn run(self, from: u8, to: u8, s: [Gf; 48]) -> Scaled
-        ensures { λ p. ⌜ scaled (from + (to - from)) p ≡ turns (turn-scaled (row s)) from (to - from) (scaled from self) ⌝ }
+        ensures { λ p. ⌜ scaled (from + (to - from)) p ≡ iterated (iterate-scaled (row s)) from (to - from) (scaled from self) ⌝ }
     {
         let mut p = self;
         let mut r = from;

@@ -1,6 +1,6 @@
 -- A stage of a subword that is not settled, and where its solver must stand for it.
 --
---   known p r         how many syndromes the stages before stage r look at
+--   seen-before p r   how many syndromes the stages before stage r look at
 --   earlier p S r     these stages, taken as rounds of the row S
 --   Ready p f r S s   s is a solver in the form f, at the end of these rounds; and S is zero past the syndromes that stage r looks at
 --   Tried t n S s a   a is the answer of settling with what the solver s has found: sound, whatever s is; and the pattern that settles the subword, if
@@ -23,9 +23,9 @@ use Rattle.settle.specs.Answer.{answer, Sound}
 use Rattle.staged_decoding.specs.Definition.{rounds-of}
 use Rattle.solver.specs.ContinuationDefinition.{Ended}
 
-abbrev pub known : Profile → ℕ → ℕ
-known p zero = 0
-known p (suc r) = 2 * capability p r
+abbrev pub seen-before : Profile → ℕ → ℕ
+seen-before p zero = 0
+seen-before p (suc r) = 2 * capability p r
 
 abbrev pub earlier : Profile → Series → ℕ → List (List F)
 earlier p S zero = []

@@ -25,7 +25,7 @@ use Rattle.staged_decoding.specs.Definition.{rounds-of}
 use Rattle.staged_decoding.specs.Rounds.{rounds-joined, rounds-cong}
 use Rattle.solver.specs.ContinuationDefinition.{Ended, Advanced, ended-start}
 use Rattle.solver.specs.ContinuationStages.{stage-first, stage-next}
-use Rattle.stages.specs.AttemptDefinition.{known, Ready, Tried}
+use Rattle.stages.specs.AttemptDefinition.{seen-before, Ready, Tried}
 
 pub ready-start : (p : Profile) (f : Form) (S : Series) (s : Solver) → Is f 0 s (form-of f .start) → below (2 * capability p 0) S → Ready p f 0 S s
 ready-start p f S s is past = record { ended = ended-start f s is; past = past }
@@ -39,7 +39,7 @@ module _ (p : Profile) (ok : Valid p) (f : Form) (S : Series) (s : Solver) where
     past = past;
   }
 
-  pub ready-advance : (r : ℕ) (q : Solver) → r ≤ p .nested → Advanced (known p r) (2 * capability p r) S s q → Ready p f r S s
+  pub ready-advance : (r : ℕ) (q : Solver) → r ≤ p .nested → Advanced (seen-before p r) (2 * capability p r) S s q → Ready p f r S s
       → Ended f (rounds-of p S r) q
   unfolding Ended finish events after joined
   ready-advance zero q h advanced ready = stage-first p ok f S s q (ready .past) (ready .ended) advanced
@@ -48,14 +48,14 @@ module _ (p : Profile) (ok : Valid p) (f : Form) (S : Series) (s : Solver) where
 -- ---- what `attempt` promises, from what its parts promise
 
 module _ (p : Profile) (r : ℕ) where
-  pub known-first : r ≡ 0 → known p r ≡ 0
-  known-first e = rw e refl
+  pub seen-before-first : r ≡ 0 → seen-before p r ≡ 0
+  seen-before-first e = rw e refl
 
-  pub known-next : r ≢ 0 → known p r ≡ 2 * capability p (r - 1)
-  known-next h = let e : r ≡ suc (r - 1) = omega (arith, h) in ap (known p) e
+  pub seen-before-next : r ≢ 0 → seen-before p r ≡ 2 * capability p (r - 1)
+  seen-before-next h = let e : r ≡ suc (r - 1) = omega (arith, h) in ap (seen-before p) e
 
 module _ (p : Profile) (ok : Valid p) (r : ℕ) (h : r ≤ p .nested) (S : Series) (s q : Solver) (a : Settled) where
-  pub kept : (u v t : ℕ) → u ≡ known p r → v ≡ 2 * capability p r → t ≡ capability p r → Advanced u v S s q → Tried t (p .length) S q a
+  pub kept : (u v t : ℕ) → u ≡ seen-before p r → v ≡ 2 * capability p r → t ≡ capability p r → Advanced u v S s q → Tried t (p .length) S q a
       → Sound (capability p r) (p .length) S a
       × (((f : Form) → Ready p f r S s → answer (p .length) a ≡ settle (capability p r) (p .length) S)
       × ((f : Form) → Ready p f r S s → Ended f (rounds-of p S r) q))

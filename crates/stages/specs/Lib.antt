@@ -6,6 +6,6 @@ pub mod Walk
 -- attempt: AttemptDefinition is what `attempt` promises of. A caller cites AttemptReady for the way from stage to stage.
 pub mod AttemptDefinition
 pub mod AttemptReady
--- subword: SubwordDefinition is what the promises speak of; SubwordTurn proves them.
+-- subword: SubwordDefinition is what the promises speak of; SubwordStage proves them.
 pub mod SubwordDefinition
-pub mod SubwordTurn
+pub mod SubwordStage

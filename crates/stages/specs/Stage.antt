@@ -31,7 +31,7 @@ use Rattle.staged_decoding.specs.Definition.{Progress, each, step, stage}
 use Rattle.staged_decoding.specs.Stage.{progress-equal, each-none, each-more, put-same, put-other, found-open, found-settled, step-none, step-some}
 use Rattle.stages.specs.AttemptDefinition.{Ready}
 use Rattle.stages.specs.declared.subword.Line.{Line}
-use Rattle.stages.specs.declared.subword.Turned.{Turned}
+use Rattle.stages.specs.declared.subword.StagedSubword.{StagedSubword}
 use Rattle.stages.specs.SubwordDefinition.{verdict-of, Took, Stayed}
 use Rattle.stages.specs.declared.Staged.{Staged}
 use Rattle.stages.specs.View.{says, Has, shown, view, so-far, Kept, Before, Came}
@@ -104,7 +104,7 @@ module _ (p : Profile) (f : Form) (r : ℕ) (t : List (List Gf)) where
             (same y (subst (λ i. Has (set lines k l) i y) q m))
         go i y m (no n) = rw (next-other r k i n, other i n) (h .solvers i y (has-other lines k i l y n m))
 
-    module _ (g : Progress) (mid : Mid p f r g k b pending lines t) (d : Bool) (e : Line) (q : Turned) where
+    module _ (g : Progress) (mid : Mid p f r g k b pending lines t) (d : Bool) (e : Line) (q : StagedSubword) where
       abbrev G : Progress
       G = view b pending lines t
 

@@ -23,7 +23,7 @@ use Rattle.stages.specs.declared.attempt.Attempted.{Attempted}
 use Rattle.stages.specs.declared.subword.Verdict.{Verdict}
 use Rattle.stages.specs.declared.subword.Verdict.the-variants.{Clean, Corrected}
 use Rattle.stages.specs.declared.subword.Line.{Line}
-use Rattle.stages.specs.declared.subword.Turned.{Turned}
+use Rattle.stages.specs.declared.subword.StagedSubword.{StagedSubword}
 
 abbrev pub verdict-of : Verdict → staged.Line
 verdict-of Clean = staged.clean
@@ -35,11 +35,11 @@ pub record Offered (p : Profile) (f : Form) (r : ℕ) (S : Series) (a : Attempte
   pub solver : Ended f (rounds-of p S r) (a .solver)
   pub some : a .settled .found ≡ true → r ≡ 0 → a .settled .count ≢ 0
 
-abbrev pub Stayed : Line → (b c : List ℕ) → Turned → Type 0
+abbrev pub Stayed : Line → (b c : List ℕ) → StagedSubword → Type 0
 Stayed line b c q = (q .pending ≡ false) × (q .line ≡ line) × (c ≡ b)
 
 -- b and c are the block before and after
-abbrev pub Took : Profile → Form → (r i : ℕ) → Series → Option (List F) → (b c : Series) → Turned → Type 0
+abbrev pub Took : Profile → Form → (r i : ℕ) → Series → Option (List F) → (b c : Series) → StagedSubword → Type 0
 Took p f r i S none b c q = (q .pending ≡ true) × (c ≡ b) × Ended f (rounds-of p S r) (q .line .solver)
 Took p f r i S (some w) b c q =
     (q .pending ≡ false) × (c ≡ add (p .length) i (entry w) b) × (verdict-of (q .line .verdict) ≡ line-of r (weight (p .length) (entry w)))

@@ -8,7 +8,7 @@ ghost use Rattle.settling.specs.Definition.{settle};
 ghost use Rattle.staged_decoding.specs.Definition.{rounds-of};
 ghost use Rattle.solver.specs.ContinuationDefinition.{Ended};
 ghost use Rattle.settle.specs.Answer.{answer, Sound};
-ghost use Rattle.stages.specs.AttemptDefinition.{known as Known, Ready, Tried};
+ghost use Rattle.stages.specs.AttemptDefinition.{seen-before as SeenBefore, Ready, Tried};
 use field::Gf;
 use polynomial::SYNDROMES;
 use profile::Profile;
@@ -39,9 +39,9 @@ fn seen(p: Profile, r: u8) -> u8
 }
 
 // How many the stages before it look at.
-fn known(p: Profile, r: u8) -> u8
+fn seen_before(p: Profile, r: u8) -> u8
     requires { ⌜ Valid p × (r ≤ p .nested) ⌝ }
-    ensures { λ k. ⌜ k ≡ Known p r ⌝ }
+    ensures { λ k. ⌜ k ≡ SeenBefore p r ⌝ }
 {
     if r == 0 {
         return 0;
@@ -68,7 +68,7 @@ pub fn attempt(p: Profile, r: u8, s: Solver, row: [Gf; SYNDROMES]) -> Attempted
 {
     let n = p.length as usize;
     let t = correctable(p, r) as usize;
-    let next = solver::continuation::advance(s, known(p, r), seen(p, r), row);
+    let next = solver::continuation::advance(s, seen_before(p, r), seen(p, r), row);
     Attempted {
         solver: next,
         settled: tried(next, row, n, t),

@@ -56,7 +56,7 @@ fn stage(
     let mut done = lines;
     let mut i: usize = 0;
     while i < m {
-        let t = crate::subword::turn(p, r, i, flags[i], done[i], table[i], block);
+        let t = crate::subword::stage(p, r, i, flags[i], done[i], table[i], block);
         flags[i] = t.pending;
         let l = t.line;
         done[i] = l;

@@ -36,7 +36,7 @@ pub struct Line {
 }
 
 // A subword after a stage. The verdict of one that is pending, not settled yet, says nothing.
-pub struct Turned {
+pub struct StagedSubword {
     pub pending: bool,
     pub line: Line,
 }
@@ -69,7 +69,7 @@ fn correct(p: Profile, i: usize, pattern: [Gf; 255], block: &mut [u8])
 }
 
 // What an attempt has brought is taken: the block is corrected if the subword is settled.
-fn take(p: Profile, r: u8, i: usize, a: Attempted, block: &mut [u8]) -> Turned
+fn take(p: Profile, r: u8, i: usize, a: Attempted, block: &mut [u8]) -> StagedSubword
     requires { ⌜ Fits p (now block) × (i < p .subwords) ⌝ }
     ensures { λ q. ⌜ ((f : Form) (S : Series) → Offered p f r S a
         → Took p f r i S (answer (p .length) (a .settled)) (bytes (now (block .entry))) (bytes (now (block .exit))) q) ⌝ }
@@ -77,7 +77,7 @@ fn take(p: Profile, r: u8, i: usize, a: Attempted, block: &mut [u8]) -> Turned
     let s = a.solver;
     let w = a.settled;
     if !w.found {
-        return Turned {
+        return StagedSubword {
             pending: true,
             line: Line {
                 verdict: Verdict::Clean,
@@ -88,7 +88,7 @@ fn take(p: Profile, r: u8, i: usize, a: Attempted, block: &mut [u8]) -> Turned
     let pattern = w.pattern;
     correct(p, i, pattern, block);
     let v = verdict_of(r, w.count);
-    Turned {
+    StagedSubword {
         pending: false,
         line: Line {
             verdict: v,
@@ -108,7 +108,7 @@ fn is_clean(r: u8, row: [Gf; SYNDROMES]) -> bool
 }
 
 // Stage r of subword i. A clean subword runs no solver; one that is settled stays as it is.
-pub fn turn(
+pub fn stage(
     p: Profile,
     r: u8,
     i: usize,
@@ -116,21 +116,21 @@ pub fn turn(
     line: Line,
     row: [Gf; SYNDROMES],
     block: &mut [u8],
-) -> Turned
+) -> StagedSubword
     requires { ⌜ Fits p (now block) × (i < p .subwords) × (r ≤ p .nested) ⌝ }
     ensures settled { λ q. ⌜ (pending ≡ false → Stayed line (now (block .entry)) (now (block .exit)) q) ⌝ }
     ensures pending { λ q. ⌜ (pending ≡ true → (f : Form) → Ready p f r (Row row) (line .solver)
         → Took p f r i (Row row) (Settle (capability p r) (p .length) (Row row)) (bytes (now (block .entry))) (bytes (now (block .exit))) q) ⌝ }
 {
     if !pending {
-        return Turned {
+        return StagedSubword {
             pending: false,
             line: line,
         };
     }
     let s = line.solver;
     if is_clean(r, row) {
-        return Turned {
+        return StagedSubword {
             pending: false,
             line: Line {
                 verdict: Verdict::Clean,

@@ -28,7 +28,7 @@ fn end(at: usize, n: usize, size: usize) -> usize
 }
 
 // Prints the line of a section, and tells what comes next.
-fn turn(s: Section, bytes: &[u8]) -> Section
+fn step(s: Section, bytes: &[u8]) -> Section
     ensures { λ r. ⌜ (over s ≡ false → left r < left s) ⌝ }
 {
     let mut line = blank();
@@ -43,7 +43,7 @@ fn list(card: &[u8]) {
     let mut at: usize = 0;
     while !card::section::is_over(s) {
         let e = end(at, card::section::wanted(s), card.len());
-        let next = turn(s, &card[at..e]);
+        let next = step(s, &card[at..e]);
         s = next;
         at = e;
     }

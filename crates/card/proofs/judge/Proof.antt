@@ -5,11 +5,11 @@ use borrow.Author.Needs.{needs}
 use Rattle.card.proofs.judge.Statement.{statement}
 use Rattle.card.proofs.judge.Tie as tie
 
-room-requires : tie.Need-room-requires
-room-requires c κs = search needs
+blank-requires : tie.Need-blank-requires
+blank-requires c κs = search needs
 
-room-requires-2 : tie.Need-room-requires-2
-room-requires-2 c κs = search needs
+blank-requires-2 : tie.Need-blank-requires-2
+blank-requires-2 c κs = search needs
 
 judge-kept-requires : tie.Need-judge-kept-requires
 judge-kept-requires c κs = λ e. absurd (true≢false (sym e))
@@ -18,4 +18,4 @@ returns : tie.Need-returns
 returns c = search needs
 
 pub judge-spec : {M : Type 1} → statement M
-judge-spec = tie.close (tie.spec room-requires room-requires-2 judge-kept-requires returns)
+judge-spec = tie.close (tie.spec blank-requires blank-requires-2 judge-kept-requires returns)

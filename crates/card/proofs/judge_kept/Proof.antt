@@ -5,8 +5,8 @@ use lib.ListN.{take}
 use lib.Seq.{length-take-le}
 use Rattle.card.specs.SectionDefinition.{good, known, size}
 use Rattle.card.specs.SectionLaws.{takes-as}
-use Rattle.card.specs.PrintedTurn.{whole, cut}
-use Rattle.card.specs.PrintedWhole.{known-good, step-cut, step-whole, turns}
+use Rattle.card.specs.PrintedStep.{whole, cut}
+use Rattle.card.specs.PrintedWhole.{known-good, step-cut, step-whole, judges}
 use Rattle.card.specs.Laws.{kept-as, made-next, cut-kept, known-kept}
 use borrow.Author.Needs.{needs}
 use Rattle.card.proofs.judge_kept.Statement.{statement}
@@ -25,7 +25,7 @@ returns : tie.Need-returns
 returns c =
     let given = c .before .before .before .before .before .before .args in
     let short = step-cut (known (given .s)) (given .bytes .now) (omega (arith, c .before .before .if1 .taken, c .before .before .before .before .wanted .ensures .0)) in (
-      turns (given .s) (given .bytes .now) _ _ _ (takes-as (ap cut (c .before .before .before .known .ensures .0) ∙ short) (c .cut .ensures)) (λ j.
+      judges (given .s) (given .bytes .now) _ _ _ (takes-as (ap cut (c .before .before .before .known .ensures .0) ∙ short) (c .cut .ensures)) (λ j.
           omega (arith, c .before .before .before .before .before .shared-slice-known .given j)),
       kept-as _ _ (c .cut .ensures .next) (cut-kept (given .t .now) (given .u .now) (c .before .before .before .known .result)),
     )
@@ -48,7 +48,7 @@ returns-2 c =
     let known-is = c .before .before .before .before .before .before .known .ensures .0 in
     let long = step-whole (known (given .s)) (given .bytes .now) (omega (arith, c .before .before .before .before .before .if1 .left, wanted)) in
     let (takes, made) = c .whole .ensures in (
-      turns (given .s) (given .bytes .now) _ _ _ (takes-as (ap₂ (λ s n. whole s (take n (given .bytes .now))) known-is wanted ∙ long) takes) (λ j.
+      judges (given .s) (given .bytes .now) _ _ _ (takes-as (ap₂ (λ s n. whole s (take n (given .bytes .now))) known-is wanted ∙ long) takes) (λ j.
           omega (arith, c .before .before .before .before .before .before .before .before .shared-slice-known .given j)),
       kept-as _ _ (takes .next) (made-next _ _ (c .before .before .before .before .before .before .known .result) _ made),
     )

@@ -5,7 +5,7 @@ use native.Mathlib.Omega.{arith}
 use borrow.Author.Tests.{ltb-true, eq-eqb}
 use Rattle.card.specs.SectionDefinition.{good, size}
 use Rattle.card.specs.SectionLaws.{takes-silent, takes-as}
-use Rattle.card.specs.PrintedTurn.{whole}
+use Rattle.card.specs.PrintedStep.{whole}
 use Rattle.card.specs.Laws.{made-as, kept-as}
 use borrow.Author.Needs.{needs}
 use Rattle.card.proofs.whole.Statement.{statement}

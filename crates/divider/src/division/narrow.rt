@@ -32,7 +32,7 @@ pub fn remainder(t: &[u64], word: &[u8], from: usize) -> Packed
     r
 }
 
-// A step of each of four words a turn. No step waits for another, so the other three words are nearly free.
+// A step of each of four words in a pass. No step waits for another, so the other three words are nearly free.
 pub fn remainders(t: &[u64], a: &[u8], b: &[u8], c: &[u8], d: &[u8], from: usize) -> Four
     requires { ⌜ Multiples narrow (now t) × (from ≤ length (now a)) × (length (now b) ≡ length (now a)) × (length (now c) ≡ length (now a))
         × (length (now d) ≡ length (now a)) ⌝ }

@@ -34,7 +34,7 @@ pub fn remainder(t: &[u64], word: &[u8], from: usize) -> Packed
     r
 }
 
-// A step of each of two words a turn. Neither step waits for the other, so the second word is nearly free; more words do not fit into the registers.
+// A step of each of two words in a pass. Neither step waits for the other, so the second word is nearly free; more words do not fit into the registers.
 pub fn remainders(t: &[u64], a: &[u8], b: &[u8], from: usize) -> Pair
     requires { ⌜ Multiples wide (now t) × (from ≤ length (now a)) × (length (now b) ≡ length (now a)) ⌝ }
     ensures first { λ r. ⌜ Leaves wide (now (t .entry)) from (now (a .entry)) (r .0) ⌝ }

@@ -10,7 +10,7 @@ use Rattle.profile.specs.Valid.{checks-some, checks-most}
 use Rattle.block.specs.Parts.{Fits}
 use Rattle.code.specs.Right.{all-right}
 use Rattle.divider.specs.GeneratorTable.{Made, table-for}
-use Rattle.encoder.specs.Write.{Upper, turn, part-data, upper-next}
+use Rattle.encoder.specs.Write.{Upper, stretch, part-data, upper-next}
 use borrow.Author.Needs.{needs}
 use Rattle.encoder.proofs.write.Statement.{statement}
 use Rattle.encoder.proofs.write.Tie as tie
@@ -25,8 +25,8 @@ abbrev μ-loop : tie.MeasureT-loop
 cast-n : tie.Need-cast-n Inv-loop μ-loop
 cast-n c = search needs
 
-room-requires : tie.Need-room-requires Inv-loop μ-loop
-room-requires c κs = search needs
+blank-requires : tie.Need-blank-requires Inv-loop μ-loop
+blank-requires c κs = search needs
 
 checks-requires : tie.Need-checks-requires Inv-loop μ-loop
 checks-requires c κs = search needs
@@ -93,7 +93,7 @@ sub-start c =
     let now = c .before .before .before .before .before .loop in
     let test = c .before .before .before .before .loop-test .taken in
     let checks = c .before .before .before .checks2 .ensures in
-    let here = turn (given .args .p) (given .pre .0 .valid) _ (now .i) _ (now .end) test (now .inv .0) (given .pre .1) checks (now .inv .1) in
+    let here = stretch (given .args .p) (given .pre .0 .valid) _ (now .i) _ (now .end) test (now .inv .0) (given .pre .1) checks (now .inv .1) in
     here .checks-le
 
 sub-start-2 : tie.Need-sub-start-2 Inv-loop μ-loop
@@ -102,8 +102,8 @@ sub-start-2 c =
     let now = c .before .before .before .before .before .loop in
     let test = c .before .before .before .before .loop-test .taken in
     let checks = c .before .before .before .checks2 .ensures in
-    let here = turn (given .args .p) (given .pre .0 .valid) _ (now .i) _ (now .end) test (now .inv .0) (given .pre .1) checks (now .inv .1) in
-    here .room-le
+    let here = stretch (given .args .p) (given .pre .0 .valid) _ (now .i) _ (now .end) test (now .inv .0) (given .pre .1) checks (now .inv .1) in
+    here .length-le
 
 slice-aggregate-write-subword : tie.Need-slice-aggregate-write-subword Inv-loop μ-loop
 slice-aggregate-write-subword c = search needs
@@ -120,7 +120,7 @@ part-write-subword-end c =
     let now = c .before .before .before .before .before .before .loop in
     let test = c .before .before .before .before .before .loop-test .taken in
     let checks = c .before .before .before .before .checks2 .ensures in
-    let here = turn (given .args .p) (given .pre .0 .valid) _ (now .i) _ (now .end) test (now .inv .0) (given .pre .1) checks (now .inv .1) in
+    let here = stretch (given .args .p) (given .pre .0 .valid) _ (now .i) _ (now .end) test (now .inv .0) (given .pre .1) checks (now .inv .1) in
     here .end-le
 
 write-subword-requires : tie.Need-write-subword-requires Inv-loop μ-loop
@@ -129,7 +129,7 @@ write-subword-requires c κs =
     let now = c .before .before .before .before .before .before .before .before .loop in
     let test = c .before .before .before .before .before .before .before .loop-test .taken in
     let checks = c .before .before .before .before .before .before .checks2 .ensures in
-    let here = turn (given .args .p) (given .pre .0 .valid) _ (now .i) _ (now .end) test (now .inv .0) (given .pre .1) checks (now .inv .1) in
+    let here = stretch (given .args .p) (given .pre .0 .valid) _ (now .i) _ (now .end) test (now .inv .0) (given .pre .1) checks (now .inv .1) in
     let input = given .args .input .now in
     let start = now .end - (given .args .p .length - c .before .before .before .before .before .before .checks2 .result) in
     let fits : now .end - start ≤ length (drop start input) = omega (arith, length-drop start input, here .end-le) in (
@@ -148,7 +148,7 @@ loop-again c =
     let now = c .before .before .before .before .before .before .before .before .before .before .before .loop in
     let test = c .before .before .before .before .before .before .before .before .before .before .loop-test .taken in
     let checks = c .before .before .before .before .before .before .before .before .before .checks2 .ensures in
-    let here = turn (given .args .p) (given .pre .0 .valid) _ (now .i) _ (now .end) test (now .inv .0) (given .pre .1) checks (now .inv .1) in
+    let here = stretch (given .args .p) (given .pre .0 .valid) _ (now .i) _ (now .end) test (now .inv .0) (given .pre .1) checks (now .inv .1) in
     let p = given .args .p in
     let ok = given .pre .0 .valid in
     let input = given .args .input .now in
@@ -177,7 +177,7 @@ write-spec =
     Inv-loop
     μ-loop
     cast-n
-    room-requires
+    blank-requires
     checks-requires
     cast-made
     slice-aggregate-table

@@ -5,7 +5,7 @@ use native.Mathlib.Omega.{arith}
 use lib.ListN.{length}
 use Rattle.series.specs.Array.{bytes}
 use Rattle.profile.specs.Definition.{data-start}
-use Rattle.profile.specs.Valid.{checks-room, data-size-is}
+use Rattle.profile.specs.Valid.{checks-below, data-size-is}
 use Rattle.block.specs.Parts.{Fits}
 use Rattle.divider.specs.GeneratorTable.{table-for}
 use Rattle.encoder.specs.Write.{Upper, quarters, checks-above, quarter-length, quarter-data, upper-four}
@@ -24,7 +24,7 @@ cast-one : tie.Need-cast-one Inv-loop μ-loop
 cast-one c = search needs
 
 sub-one : tie.Need-sub-one Inv-loop μ-loop
-sub-one c = let given = c .before .before .before .before in omega (arith, given .pre .2, checks-room (given .args .p) (given .pre .0 .valid) (given .args .p .nested))
+sub-one c = let given = c .before .before .before .before in omega (arith, given .pre .2, checks-below (given .args .p) (given .pre .0 .valid) (given .args .p .nested))
 
 cast-least : tie.Need-cast-least Inv-loop μ-loop
 cast-least c = search needs
@@ -160,7 +160,7 @@ write-four-requires c κs =
     let i = now .i - 4 in
     let input = given .args .input .now in
     let high : p .nested ≤ i = omega (arith, taken) in
-    let room = here .rooms i (omega arith) in (
+    let room = here .lengths i (omega arith) in (
       fits,
       high,
       here .less,
@@ -190,10 +190,10 @@ loop-again c =
       here .a,
       record { valid = fits .valid; size = omega (arith, c .before .out .given, fits .size) },
       upper-four p (fits .valid) _ _ _ _ (bytes input) _ _ i
-          (quarter-data p i _ (now .end - one - one - one) one input refl (here .a-le) (omega (arith, here .end-le)) (here .rooms i (omega arith)) (here .a))
-          (quarter-data p (i + 1) _ (now .end - one - one) one input refl (here .b-le) (omega (arith, here .end-le)) (here .rooms (i + 1) (omega arith)) (here .b))
-          (quarter-data p (i + 2) _ (now .end - one) one input refl (here .c-le) (omega (arith, here .end-le)) (here .rooms (i + 2) (omega arith)) (here .c))
-          (quarter-data p (i + 3) _ (now .end) one input refl (here .d-le) (omega (arith, here .end-le)) (here .rooms (i + 3) (omega arith)) (here .d))
+          (quarter-data p i _ (now .end - one - one - one) one input refl (here .a-le) (omega (arith, here .end-le)) (here .lengths i (omega arith)) (here .a))
+          (quarter-data p (i + 1) _ (now .end - one - one) one input refl (here .b-le) (omega (arith, here .end-le)) (here .lengths (i + 1) (omega arith)) (here .b))
+          (quarter-data p (i + 2) _ (now .end - one) one input refl (here .c-le) (omega (arith, here .end-le)) (here .lengths (i + 2) (omega arith)) (here .c))
+          (quarter-data p (i + 3) _ (now .end) one input refl (here .d-le) (omega (arith, here .end-le)) (here .lengths (i + 3) (omega arith)) (here .d))
           (c .before .before .write-four .ensures) (λ k h l. right k (omega (arith, h, taken)) l),
     )
 

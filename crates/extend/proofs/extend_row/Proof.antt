@@ -5,7 +5,7 @@ use native.Mathlib.Omega.{arith}
 use lib.ListN.{length}
 use lib.Seq.{length-take-le}
 use Rattle.profile.specs.Laws.{unless, meets}
-use Rattle.profile.specs.Valid.{checks-least, checks-most, checks-room}
+use Rattle.profile.specs.Valid.{checks-least, checks-most, checks-below}
 use Rattle.block.specs.CodewordLaws.{roots-for}
 use Rattle.extend.specs.Rows.{left-syndrome, extended-no, extended-word}
 use borrow.Author.Needs.{needs}
@@ -52,7 +52,7 @@ residue-requires c κs =
     let size = length-take-le (p .length) (c .before .merge .result) (omega (arith, ok .length)) in (
       roots-for (sym k) (given .pre .1 (given .pre .2)),
       omega (arith, checks-least p ok 0, checks-most p ok 0, k),
-      omega (arith, checks-room p ok 0, k, size),
+      omega (arith, checks-below p ok 0, k, size),
     )
 
 array-share-prefix-left : tie.Need-array-share-prefix-left

@@ -52,8 +52,8 @@ loop-less c = search needs
 
 loop-again : tie.Need-loop-again Inv-loop μ-loop
 loop-again c =
-    let turn = c .before .before in
-    filled-more _ (turn .before .loop .inv) (omega arith) (c .product .ensures ∙ sym (K-⊠-at _ _ _ ∙ ap₂ _⊙_ refl (poly-at _ _ (omega arith))))
+    let tested = c .before .before in
+    filled-more _ (tested .before .loop .inv) (omega arith) (c .product .ensures ∙ sym (K-⊠-at _ _ _ ∙ ap₂ _⊙_ refl (poly-at _ _ (omega arith))))
 
 returns-3 : tie.Need-returns-3 Inv-loop μ-loop
 returns-3 c =

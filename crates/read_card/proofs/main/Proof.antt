@@ -1,4 +1,4 @@
--- Every turn brings the end nearer.
+-- Every step brings the end nearer.
 use mathlib.Core.Path.{_≡_, sym, _∙_}
 use native.Mathlib.Omega.{arith}
 use lib.ListN.{length}
@@ -16,8 +16,8 @@ Inv-loop bytes₀ t₀ u₀ s₀ bytes t u s = (length bytes ≡ 2040) × Kept s
 abbrev μ-loop : tie.MeasureT-loop
 μ-loop bytes₀ t₀ u₀ s₀ bytes t u s = left s
 
-room-requires : tie.Need-room-requires Inv-loop μ-loop
-room-requires c κs = search needs
+blank-requires : tie.Need-blank-requires Inv-loop μ-loop
+blank-requires c κs = search needs
 
 table-requires : tie.Need-table-requires Inv-loop μ-loop
 table-requires c κs = search needs
@@ -37,21 +37,21 @@ wanted-requires c κs = search needs
 array-borrow-prefix-bytes : tie.Need-array-borrow-prefix-bytes Inv-loop μ-loop
 array-borrow-prefix-bytes c = search needs
 
-slice-aggregate-turn : tie.Need-slice-aggregate-turn Inv-loop μ-loop
-slice-aggregate-turn c = sym (length-take-le _ _ (omega (arith, c .before .before .before .wanted .ensures .1, c .before .before .before .before .before .before .loop .inv .0)))
+slice-aggregate-step : tie.Need-slice-aggregate-step Inv-loop μ-loop
+slice-aggregate-step c = sym (length-take-le _ _ (omega (arith, c .before .before .before .wanted .ensures .1, c .before .before .before .before .before .before .loop .inv .0)))
 
-turn-requires : tie.Need-turn-requires Inv-loop μ-loop
-turn-requires c κs = search needs
+step-requires : tie.Need-step-requires Inv-loop μ-loop
+step-requires c κs = search needs
 
 loop-less : tie.Need-loop-less Inv-loop μ-loop
-loop-less c = c .before .turn .ensures .0 (sym (c .before .before .before .before .before .before .before .is-over .ensures) ∙ unless _ (c .before .before .before .before .before .before .if1 .taken))
+loop-less c = c .before .step .ensures .0 (sym (c .before .before .before .before .before .before .before .is-over .ensures) ∙ unless _ (c .before .before .before .before .before .before .if1 .taken))
 
 loop-again : tie.Need-loop-again Inv-loop μ-loop
 loop-again c =
     let now = c .before .before .before .before .before .before .before .before .loop in
     let wanted = c .before .before .before .before .before .wanted in
-    let turn = c .before .turn in
-    (length-front (now .bytes) (turn .last .1 .1 .1 .0) (wanted .result) (turn .kept .1 .1 .1 .0) ∙ now .inv .0, turn .ensures .1)
+    let step = c .before .step in
+    (length-front (now .bytes) (step .last .1 .1 .1 .0) (wanted .result) (step .kept .1 .1 .1 .0) ∙ now .inv .0, step .ensures .1)
 
 returns : tie.Need-returns Inv-loop μ-loop
 returns c = search needs
@@ -62,15 +62,15 @@ main-spec =
     (tie.spec
     Inv-loop
     μ-loop
-    room-requires
+    blank-requires
     table-requires
     table-requires-2
     loop-holds
     is-over-requires
     wanted-requires
     array-borrow-prefix-bytes
-    slice-aggregate-turn
-    turn-requires
+    slice-aggregate-step
+    step-requires
     loop-less
     loop-again
     returns)

@@ -25,23 +25,23 @@ cast-m c = search needs
 loop-holds : tie.Need-loop-holds Inv-loop μ-loop
 loop-holds c = (omega arith, c .before .before .pre .0, search needs, search needs, search needs, λ f h. mid-start _ f _ _ _ _ _ h)
 
-array-read-turn : tie.Need-array-read-turn Inv-loop μ-loop
-array-read-turn c = search needs
+array-read-stage : tie.Need-array-read-stage Inv-loop μ-loop
+array-read-stage c = search needs
 
-mul-turn : tie.Need-mul-turn Inv-loop μ-loop
-mul-turn c = search needs
+mul-stage : tie.Need-mul-stage Inv-loop μ-loop
+mul-stage c = search needs
 
-array-copy-out-turn : tie.Need-array-copy-out-turn Inv-loop μ-loop
-array-copy-out-turn c = search needs
+array-copy-out-stage : tie.Need-array-copy-out-stage Inv-loop μ-loop
+array-copy-out-stage c = search needs
 
-mul-turn-2 : tie.Need-mul-turn-2 Inv-loop μ-loop
-mul-turn-2 c = search needs
+mul-stage-2 : tie.Need-mul-stage-2 Inv-loop μ-loop
+mul-stage-2 c = search needs
 
-array-copy-out-turn-2 : tie.Need-array-copy-out-turn-2 Inv-loop μ-loop
-array-copy-out-turn-2 c = search needs
+array-copy-out-stage-2 : tie.Need-array-copy-out-stage-2 Inv-loop μ-loop
+array-copy-out-stage-2 c = search needs
 
-turn-requires : tie.Need-turn-requires Inv-loop μ-loop
-turn-requires c κs =
+stage-requires : tie.Need-stage-requires Inv-loop μ-loop
+stage-requires c κs =
     let given = c .before .before .before .before .before .before .before in
     (c .before .before .before .before .loop .inv .1, c .before .before .before .loop-test .taken, given .pre .1)
 
@@ -65,15 +65,15 @@ loop-again c =
     let given = c .before .before .before .before .before .before .before .before .before .before .before in
     let now = c .before .before .before .before .before .before .before .before .loop in
     let low = c .before .before .before .before .before .before .before .loop-test .taken in
-    let turn = c .before .before .before .turn in
+    let stage = c .before .before .before .stage in
     let few = given .pre .0 .valid .subwords .1 in (
       omega arith,
       record { valid = given .pre .0 .valid; size = omega (arith, c .before .before .block .given, now .inv .1 .size) },
-      omega (arith, length-set (now .flags) (now .i) (turn .result .pending), now .inv .2),
-      omega (arith, length-set (now .done) (now .i) (turn .result .line), now .inv .3),
+      omega (arith, length-set (now .flags) (now .i) (stage .result .pending), now .inv .2),
+      omega (arith, length-set (now .done) (now .i) (stage .result .line), now .inv .3),
       now .inv .4,
       λ f h. mid-next (given .args .p) f (given .args .r) (given .args .t5) (now .i) (now .block) _ (now .flags) (now .done) low
-          (omega (arith, now .inv .2)) (omega (arith, now .inv .3)) _ (now .inv .5 f h) _ _ (turn .result) _ (omega (arith, low, few, now .inv .4)) (turn .ensures .0) (turn .ensures .1),
+          (omega (arith, now .inv .2)) (omega (arith, now .inv .3)) _ (now .inv .5 f h) _ _ (stage .result) _ (omega (arith, low, few, now .inv .4)) (stage .ensures .0) (stage .ensures .1),
     )
 
 same-length : tie.Need-same-length Inv-loop μ-loop
@@ -92,12 +92,12 @@ stage-spec =
     μ-loop
     cast-m
     loop-holds
-    array-read-turn
-    mul-turn
-    array-copy-out-turn
-    mul-turn-2
-    array-copy-out-turn-2
-    turn-requires
+    array-read-stage
+    mul-stage
+    array-copy-out-stage
+    mul-stage-2
+    array-copy-out-stage-2
+    stage-requires
     array-write-flags
     mul-done
     array-set-from-done

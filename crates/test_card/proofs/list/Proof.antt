@@ -1,4 +1,4 @@
--- Every turn brings the end nearer.
+-- Every step brings the end nearer.
 use Prim.Native.Nat.{_≤_}
 use mathlib.Core.Path.{sym, _∙_}
 use lib.ListN.{length}
@@ -26,20 +26,20 @@ wanted-requires c κs = search needs
 end-requires : tie.Need-end-requires Inv-loop μ-loop
 end-requires c κs = search needs
 
-sub-turn : tie.Need-sub-turn Inv-loop μ-loop
-sub-turn c = search needs
+sub-step : tie.Need-sub-step Inv-loop μ-loop
+sub-step c = search needs
 
-part-turn-start : tie.Need-part-turn-start Inv-loop μ-loop
-part-turn-start c = search needs
+part-step-start : tie.Need-part-step-start Inv-loop μ-loop
+part-step-start c = search needs
 
-part-turn-end : tie.Need-part-turn-end Inv-loop μ-loop
-part-turn-end c = search needs
+part-step-end : tie.Need-part-step-end Inv-loop μ-loop
+part-step-end c = search needs
 
-turn-requires : tie.Need-turn-requires Inv-loop μ-loop
-turn-requires c κs = search needs
+step-requires : tie.Need-step-requires Inv-loop μ-loop
+step-requires c κs = search needs
 
 loop-less : tie.Need-loop-less Inv-loop μ-loop
-loop-less c = c .turn .ensures (sym (c .before .before .before .before .before .is-over .ensures) ∙ unless _ (c .before .before .before .before .if1 .taken))
+loop-less c = c .step .ensures (sym (c .before .before .before .before .before .is-over .ensures) ∙ unless _ (c .before .before .before .before .if1 .taken))
 
 loop-again : tie.Need-loop-again Inv-loop μ-loop
 loop-again c = search needs
@@ -57,10 +57,10 @@ list-spec =
     is-over-requires
     wanted-requires
     end-requires
-    sub-turn
-    part-turn-start
-    part-turn-end
-    turn-requires
+    sub-step
+    part-step-start
+    part-step-end
+    step-requires
     loop-less
     loop-again
     returns)

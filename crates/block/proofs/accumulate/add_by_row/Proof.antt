@@ -4,7 +4,7 @@ use mathlib.Core.Path.{sym, _∙_}
 use native.Mathlib.Nat.{add-sub-cancel-left}
 use native.Mathlib.Omega.{arith}
 use lib.Seq.{length-take-le}
-use Rattle.kernel.specs.Row.{row-products, factor-products}
+use Rattle.kernel.specs.ProductRow.{row-products, factor-products}
 use Rattle.block.specs.Parts.{inside, part-length}
 use Rattle.code.specs.Combined.{add-part}
 use borrow.Author.Needs.{needs}

@@ -5,7 +5,7 @@ use native.Mathlib.Omega.{arith}
 use lib.ListN.{length, replicate}
 use lib.Seq.{length-take-le}
 use Rattle.series.specs.Array.{bytes}
-use Rattle.profile.specs.Valid.{checks-least, checks-most, checks-room}
+use Rattle.profile.specs.Valid.{checks-least, checks-most, checks-below}
 use Rattle.block.specs.CodewordLaws.{roots-for, residual-left, three-rows}
 use borrow.Author.Needs.{needs}
 use Rattle.block.proofs.codeword.remainders.Statement.{statement}
@@ -85,7 +85,7 @@ residues-requires c κs =
     let size4 = length-take-le n (replicate {A = ℕ} 255 0) room in (
       roots-for (sym k) (given .pre .1 (omega arith)),
       omega (arith, checks-least p ok 0, checks-most p ok 0, k),
-      omega (arith, checks-room p ok 0, k, size1),
+      omega (arith, checks-below p ok 0, k, size1),
       size2 ∙ sym size1,
       size3 ∙ sym size1,
       size4 ∙ sym size1,

@@ -4,7 +4,7 @@ use mathlib.Core.Path.{refl, sym, _∙_}
 use native.Mathlib.Nat.{add-sub-cancel-left}
 use native.Mathlib.Omega.{arith}
 use Rattle.series.specs.Array.{bytes}
-use Rattle.profile.specs.Valid.{checks-least, checks-most, checks-room}
+use Rattle.profile.specs.Valid.{checks-least, checks-most, checks-below}
 use Rattle.block.specs.ReceivedRows.{part-size, four-parts, four-rows, part-row}
 use borrow.Author.Needs.{needs}
 use Rattle.block.proofs.received.four.Statement.{statement}
@@ -86,7 +86,7 @@ residues-requires c κs =
     let size4 = part-size n (a + n + n + n) (a + n + n + n + n - (a + n + n + n)) b (add-sub-cancel-left (a + n + n + n) n) (omega (arith, in-block)) in (
       given .pre .1,
       omega (arith, least, checks-most p ok 0),
-      omega (arith, size1, least, checks-room p ok 0),
+      omega (arith, size1, least, checks-below p ok 0),
       size2 ∙ sym size1,
       size3 ∙ sym size1,
       size4 ∙ sym size1,

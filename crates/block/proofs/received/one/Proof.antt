@@ -4,7 +4,7 @@ use mathlib.Core.Path.{ap, _∙_}
 use native.Mathlib.Nat.{add-sub-cancel-left}
 use native.Mathlib.Omega.{arith}
 use Rattle.series.specs.Shift.{cut}
-use Rattle.profile.specs.Valid.{checks-least, checks-most, checks-room}
+use Rattle.profile.specs.Valid.{checks-least, checks-most, checks-below}
 use Rattle.block.specs.Parts.{inside, part-length, part-syndrome}
 use Rattle.block.specs.ReceivedRows.{more-rows}
 use borrow.Author.Needs.{needs}
@@ -43,7 +43,7 @@ syndromes-requires c κs =
     let ok = given .pre .0 .valid in
     let least = checks-least p ok 0 in
     let part = part-length (p .length) i _ (given .args .block .now) (add-sub-cancel-left (i * p .length) (p .length)) (inside _ _ i (given .pre .0) (given .pre .2) .0) in
-    (given .pre .1, omega (arith, least, checks-most p ok 0), omega (arith, part, least, checks-room p ok 0))
+    (given .pre .1, omega (arith, least, checks-most p ok 0), omega (arith, part, least, checks-below p ok 0))
 
 mul-out : tie.Need-mul-out
 mul-out c = let given = c .before .before .before .before .before .before in record { fits = omega (arith, given .pre .0 .valid .subwords, given .pre .2) }

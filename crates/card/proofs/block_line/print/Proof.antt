@@ -19,29 +19,29 @@ prepare-requires c κs =
     let fits = fit (given .args .p) (given .args .block .now) _ (then .before .is-block .ensures) (then .if1 .taken) (search needs) in
     (fits .valid, given .pre)
 
-room-requires : tie.Need-room-requires
-room-requires c κs = search needs
+blank-requires : tie.Need-blank-requires
+blank-requires c κs = search needs
 
 array-borrow-prefix-out : tie.Need-array-borrow-prefix-out
 array-borrow-prefix-out c =
     let then = c .before .before .before .before .before .before .before .before in
     let given = then .before .before .before in
     let fits = fit (given .args .p) (given .args .block .now) _ (then .before .is-block .ensures) (then .if1 .taken) (search needs) in
-    omega (arith, c .before .before .before .before .room .ensures, inside _ _ 0 fits (fits .valid .subwords .0))
+    omega (arith, c .before .before .before .before .blank .ensures, inside _ _ 0 fits (fits .valid .subwords .0))
 
 slice-aggregate-read-block : tie.Need-slice-aggregate-read-block
 slice-aggregate-read-block c =
     let then = c .before .before .before .before .before .before .before .before .before in
     let given = then .before .before .before in
     let fits = fit (given .args .p) (given .args .block .now) _ (then .before .is-block .ensures) (then .if1 .taken) (search needs) in
-    sym (length-take-le _ _ (omega (arith, c .before .before .before .before .before .room .ensures, inside _ _ 0 fits (fits .valid .subwords .0))))
+    sym (length-take-le _ _ (omega (arith, c .before .before .before .before .before .blank .ensures, inside _ _ 0 fits (fits .valid .subwords .0))))
 
 read-block-requires : tie.Need-read-block-requires
 read-block-requires c κs =
     let then = c .before .before .before .before .before .before .before .before .before .before in
     let given = then .before .before .before in
     let fits = fit (given .args .p) (given .args .block .now) _ (then .before .is-block .ensures) (then .if1 .taken) (search needs) in
-    (fits, length-take-le _ _ (omega (arith, c .before .before .before .before .before .before .room .ensures, inside _ _ 0 fits (fits .valid .subwords .0))), c .before .before .before .before .before .before .before .prepare .ensures)
+    (fits, length-take-le _ _ (omega (arith, c .before .before .before .before .before .before .blank .ensures, inside _ _ 0 fits (fits .valid .subwords .0))), c .before .before .before .before .before .before .before .prepare .ensures)
 
 returns : tie.Need-returns
 returns c =
@@ -59,7 +59,7 @@ print-spec =
     (tie.spec
     is-block-requires
     prepare-requires
-    room-requires
+    blank-requires
     array-borrow-prefix-out
     slice-aggregate-read-block
     read-block-requires

@@ -31,25 +31,25 @@ returns c =
     gives-kept (given .args .p) (given .args .form) (given .args .input .now) _ _ _ (given .pre .0 .valid) (given .pre .0 .size) (λ i. omega (arith, known i))
     (sym (c .before .before .before .before .before .before .is-clean .ensures) ∙ c .before .before .before .before .before .if1 .taken) (c .before .before .before .copy .ensures) refl (c .empty .ensures)
 
-room-requires : tie.Need-room-requires
-room-requires c κs = search needs
+blank-requires : tie.Need-blank-requires
+blank-requires c κs = search needs
 
 array-borrow-prefix-block : tie.Need-array-borrow-prefix-block
 array-borrow-prefix-block c =
     let given = c .before .before .before .before .before .before .before .before in
-    let room : length (c .room .result) ≡ 2040 = search needs in
+    let room : length (c .blank .result) ≡ 2040 = search needs in
     omega (arith, room, inside _ _ 0 (given .pre .0) (given .pre .0 .valid .subwords .0))
 
 slice-aggregate-decode-copy : tie.Need-slice-aggregate-decode-copy
 slice-aggregate-decode-copy c =
     let given = c .before .before .before .before .before .before .before .before .before in
-    let room : length (c .before .room .result) ≡ 2040 = search needs in
+    let room : length (c .before .blank .result) ≡ 2040 = search needs in
     sym (length-take-le _ _ (omega (arith, room, inside _ _ 0 (given .pre .0) (given .pre .0 .valid .subwords .0))))
 
 decode-copy-requires : tie.Need-decode-copy-requires
 decode-copy-requires c κs =
     let given = c .before .before .before .before .before .before .before .before .before .before in
-    let room : length (c .before .before .room .result) ≡ 2040 = search needs in (
+    let room : length (c .before .before .blank .result) ≡ 2040 = search needs in (
       given .pre .0,
       length-take-le _ _ (omega (arith, room, inside _ _ 0 (given .pre .0) (given .pre .0 .valid .subwords .0))),
       given .pre .1,
@@ -73,7 +73,7 @@ read-spec =
     empty-requires
     same-length
     returns
-    room-requires
+    blank-requires
     array-borrow-prefix-block
     slice-aggregate-decode-copy
     decode-copy-requires

@@ -1,4 +1,4 @@
--- Four narrow words a turn, or two pairs of wide ones.
+-- Four narrow words at a time, or two pairs of wide ones.
 use mathlib.Core.Path.{sym, _∙_}
 use native.Mathlib.Omega.{arith}
 use Rattle.divider.specs.Multiples.{rows-narrow, rows-wide}

@@ -43,17 +43,17 @@ add-w c = search needs
 
 loop-less : tie.Need-loop-less Inv-loop μ-loop
 loop-less c =
-    let turn = c .before .before .before .before .before .before in
-    let now = turn .before .loop in
-    omega (arith, power-room (now .w) (now .inv .1 .power) (omega (arith, turn .loop-test .taken)) .0, turn .loop-test .taken)
+    let tested = c .before .before .before .before .before .before in
+    let now = tested .before .loop in
+    omega (arith, power-room (now .w) (now .inv .1 .power) (omega (arith, tested .loop-test .taken)) .0, tested .loop-test .taken)
 
 loop-again : tie.Need-loop-again Inv-loop μ-loop
 loop-again c =
-    let turn = c .before .before .before .before .before .before in
-    let now = turn .before .loop in
+    let tested = c .before .before .before .before .before .before in
+    let now = tested .before .loop in
     let level = c .before .before .before .level .ensures in
     let packed = c .before .before .before .before .before .pack .ensures in
-    (level .long ∙ now .inv .0, built-more _ _ _ (now .inv .1) (omega (arith, turn .loop-test .taken)) packed level (c .doubled .ensures))
+    (level .long ∙ now .inv .0, built-more _ _ _ (now .inv .1) (omega (arith, tested .loop-test .taken)) packed level (c .doubled .ensures))
 
 same-length : tie.Need-same-length Inv-loop μ-loop
 same-length c = c .before .loop .inv .0 ∙ c .before .before .before .before .write .ensures .long

@@ -5,7 +5,7 @@ use native.Mathlib.Nat.{add-sub-cancel-left}
 use native.Mathlib.Omega.{arith}
 use lib.ListN.{length}
 use lib.Seq.{length-take-le}
-use Rattle.profile.specs.Valid.{checks-most, checks-room}
+use Rattle.profile.specs.Valid.{checks-most, checks-below}
 use Rattle.block.specs.Parts.{inside, part-length}
 use Rattle.divider.specs.GeneratorTable.{table-for}
 use Rattle.encoder.specs.CarrySubword.{wrote-is}
@@ -66,7 +66,7 @@ fill-requires c κs =
     let k = c .before .before .before .before .checks .ensures in
     let part = part-length n i _ _ (add-sub-cancel-left (i * n) n) (inside _ _ i (given .pre .0) (given .pre .1) .0) in
     let all : n ≡ c .before .before .before .before .checks .result + length (given .args .input .now) =
-    omega (arith, k, given .pre .3, checks-room p (given .pre .0 .valid) i) in (
+    omega (arith, k, given .pre .3, checks-below p (given .pre .0 .valid) i) in (
       table-for (sym k) (given .pre .2),
       omega (arith, checks-most p (given .pre .0 .valid) i, k),
       part ∙ all,

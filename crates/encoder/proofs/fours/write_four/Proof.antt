@@ -1,6 +1,6 @@
 -- The remainders, then subword after subword.
 use native.Mathlib.Omega.{arith}
-use Rattle.profile.specs.Valid.{checks-most, checks-room}
+use Rattle.profile.specs.Valid.{checks-most, checks-below}
 use Rattle.divider.specs.GeneratorTable.{table-for}
 use mathlib.Core.Path.{sym}
 use Rattle.encoder.specs.Fours.{known-above}
@@ -27,7 +27,7 @@ remainders-requires c κs =
     let i = given .args .i in
     let (fits, _, _, table, a, b, e, d) = given .pre in
     let k = c .checks .ensures in
-    let room = checks-room p (fits .valid) i in (
+    let room = checks-below p (fits .valid) i in (
       table-for (sym k) table,
       omega (arith, checks-most p (fits .valid) i, k),
       fits .valid .length .1,

@@ -7,7 +7,7 @@ use lib.Seq.{length-take-le}
 use Rattle.series.specs.Series.{Series, _⊞_, _⊠_}
 use Rattle.series.specs.Shift.{zpow}
 use Rattle.series.specs.Array.{bytes}
-use Rattle.profile.specs.Valid.{checks-room}
+use Rattle.profile.specs.Valid.{checks-below}
 use Rattle.block.specs.Parts.{inside, part-length}
 use Rattle.encoder.specs.Fours.{known-wrote}
 use borrow.Author.Needs.{needs}
@@ -21,7 +21,7 @@ padded-requires : tie.Need-padded-requires
 padded-requires c κs =
     let given = c .before .before .before .before in
     let (fits, _, _, ek, ed, _) = given .pre in
-    omega (arith, ek, ed, checks-room (given .args .p) (fits .valid) (given .args .i), fits .valid .length)
+    omega (arith, ek, ed, checks-below (given .args .p) (fits .valid) (given .args .i), fits .valid .length)
 
 slice-aggregate-join : tie.Need-slice-aggregate-join
 slice-aggregate-join c = search needs

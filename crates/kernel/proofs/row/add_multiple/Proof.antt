@@ -9,7 +9,7 @@ use Rattle.series.specs.Shift.{cut}
 use Rattle.series.specs.Degree.{below-cut-eq, below-weaken}
 use Rattle.series.specs.Array.{bytes, read-at, below-read}
 use Rattle.kernel.specs.Store.{bytes-xor, multiple-none, multiple-more}
-use Rattle.kernel.specs.Row.{factor, row-at}
+use Rattle.kernel.specs.ProductRow.{factor, row-at}
 use borrow.Author.Needs.{needs}
 use Rattle.kernel.proofs.row.add_multiple.Statement.{statement}
 use Rattle.kernel.proofs.row.add_multiple.Tie as tie

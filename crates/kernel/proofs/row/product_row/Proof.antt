@@ -6,7 +6,7 @@ use Rattle.field.specs.Field.{F, of, val-of}
 use Rattle.series.specs.Series.{Series}
 use Rattle.series.specs.Shift.{cut, cut-high}
 use Rattle.kernel.specs.Power.{power-room}
-use Rattle.kernel.specs.Row.{products, Level, level-none, level-more}
+use Rattle.kernel.specs.ProductRow.{products, Level, level-none, level-more}
 use borrow.Author.Needs.{needs}
 use Rattle.kernel.proofs.row.product_row.Statement.{statement}
 use Rattle.kernel.proofs.row.product_row.Tie as tie
@@ -37,14 +37,14 @@ add-w c = search needs
 
 loop-less : tie.Need-loop-less Inv-loop μ-loop
 loop-less c =
-    let turn = c .before .before .before .before in
-    let now = turn .before .loop in
-    omega (arith, power-room (now .w) (now .inv .power) (omega (arith, turn .loop-test .taken)) .0, turn .loop-test .taken)
+    let tested = c .before .before .before .before in
+    let now = tested .before .loop in
+    omega (arith, power-room (now .w) (now .inv .power) (omega (arith, tested .loop-test .taken)) .0, tested .loop-test .taken)
 
 loop-again : tie.Need-loop-again Inv-loop μ-loop
 loop-again c =
-    let turn = c .before .before .before .before in
-    level-more _ _ (turn .before .loop .inv) (omega (arith, turn .loop-test .taken)) (c .twice .ensures) (omega (arith, c .before .row2 .given))
+    let tested = c .before .before .before .before in
+    level-more _ _ (tested .before .loop .inv) (omega (arith, tested .loop-test .taken)) (c .twice .ensures) (omega (arith, c .before .row2 .given))
     (c .before .before .level .ensures)
 
 returns : tie.Need-returns Inv-loop μ-loop

@@ -9,7 +9,7 @@ use Rattle.series.specs.Shift.{drop, drop-none}
 use Rattle.series.specs.Value.{value, value-none, value-horner}
 use Rattle.series.specs.Array.{bytes, read-at}
 use Rattle.kernel.specs.Store.{bytes-xor}
-use Rattle.kernel.specs.Row.{factor, row-at}
+use Rattle.kernel.specs.ProductRow.{factor, row-at}
 use borrow.Author.Needs.{needs}
 use Rattle.kernel.proofs.row.value.Statement.{statement}
 use Rattle.kernel.proofs.row.value.Tie as tie

@@ -5,7 +5,7 @@ use native.Mathlib.Omega.{arith}
 use Rattle.field.specs.Field.{_⊙_, val-of}
 use Rattle.series.specs.Array.{bytes, read-at, Filled, filled-none, filled-more}
 use Rattle.polynomial.specs.Polynomial.{poly, poly-at, poly-filled}
-use Rattle.polynomial.specs.SyndromesTurned.{below-products}
+use Rattle.polynomial.specs.SyndromesReversed.{below-products}
 use borrow.Author.Needs.{needs}
 use Rattle.polynomial.proofs.syndromes.products.Statement.{statement}
 use Rattle.polynomial.proofs.syndromes.products.Tie as tie

@@ -4,7 +4,7 @@ use lib.ListN.{length}
 use Rattle.field.specs.Field.{_⊙_, inv}
 use Rattle.series.specs.Value.{value}
 use Rattle.series.specs.Array.{bytes}
-use Rattle.kernel.specs.Row.{row-products, factor-products}
+use Rattle.kernel.specs.ProductRow.{row-products, factor-products}
 use Rattle.settling.specs.Locator.{W-is}
 use borrow.Author.Needs.{needs}
 use Rattle.settle.proofs.candidate.forney.Statement.{statement}

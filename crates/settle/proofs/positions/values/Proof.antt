@@ -6,7 +6,7 @@ use lib.ListN.{length}
 use Rattle.field.specs.Field.{𝟏, of, pow}
 use Rattle.series.specs.Degree.{below, below-cut}
 use Rattle.series.specs.Value.{value}
-use Rattle.kernel.specs.Row.{row-products, factor-products}
+use Rattle.kernel.specs.ProductRow.{row-products, factor-products}
 use Rattle.settling.specs.Locator.{W, W-is}
 use Rattle.settle.specs.PositionsTerm.{W-nonzero, terms, below-terms, terms-first, terms-add}
 use Rattle.settle.specs.PositionsExponent.{symbols, table-set, steps-terms}

@@ -34,9 +34,9 @@ loop-less c = search needs
 
 loop-again : tie.Need-loop-again Inv-loop μ-loop
 loop-again c =
-    let turn = c .before .before in
-    let few = length-syndromes (turn .before .args .bytes .now) in
-    (filled-more _ (turn .loop .inv .0) (omega (arith, few)) (val-of _ ∙ sym (read-at _ _ _ _)), omega arith)
+    let iterate-clipped = c .before .before in
+    let few = length-syndromes (iterate-clipped .before .args .bytes .now) in
+    (filled-more _ (iterate-clipped .loop .inv .0) (omega (arith, few)) (val-of _ ∙ sym (read-at _ _ _ _)), omega arith)
 
 returns : tie.Need-returns Inv-loop μ-loop
 returns c =

@@ -1,8 +1,8 @@
--- The two ways that a turn goes on.
+-- The two ways that a iterate-clipped goes on.
 use native.Mathlib.Nat.{min-le-right}
 use native.Mathlib.Omega.{arith}
 use Rattle.solver.specs.RoundsRun.{few}
-use Rattle.solver.specs.RoundsTurn.{turn-iterate, turn-enter}
+use Rattle.solver.specs.RoundsEvent.{event-iterate, event-enter}
 use borrow.Author.Needs.{needs}
 use Rattle.solver.proofs.rounds.next.Statement.{statement}
 use Rattle.solver.proofs.rounds.next.Tie as tie
@@ -28,7 +28,7 @@ add-t21 c = search needs
 returns : tie.Need-returns
 returns c form n t =
     let given = c .before .before .before .before .before .before .before .before .before .args in
-    turn-iterate form _ _ (few (given .syndromes .now)) n (given .w) t (c .before .before .if1 .taken) _ _ (c .before .swaps .ensures) (c .iterate .ensures)
+    event-iterate form _ _ (few (given .syndromes .now)) n (given .w) t (c .before .before .if1 .taken) _ _ (c .before .swaps .ensures) (c .iterate .ensures)
 
 reach-requires : tie.Need-reach-requires
 reach-requires c κs =
@@ -53,7 +53,7 @@ returns-2 c form n t =
     let start = at .before .before .before .before .before .before .before in
     let given = start .args in
     let more = start .pre .more (at .if1 .left) in
-    turn-enter form _ (given .lengths .now) (few (given .syndromes .now)) n (given .w) t (at .if1 .left) more _ _ _
+    event-enter form _ (given .lengths .now) (few (given .syndromes .now)) n (given .w) t (at .if1 .left) more _ _ _
     (c .before .before .reach .ensures) (c .before .first .ensures) (c .enter .ensures)
 
 pub next-spec : {M : Type 1} → statement M

@@ -1,17 +1,17 @@
--- Each turn of the loop is the next event of the run.
+-- Each iterate-clipped of the loop is the next event of the run.
 use Prim.Native.Nat.{_-_, _≤_}
 use mathlib.Core.Path.{sym, subst, _∙_}
 use native.Mathlib.Omega.{arith}
 use lib.ListN.{length}
 use Rattle.solver.specs.Solver.{own-start}
 use Rattle.solver.specs.RoundsRun.{syndromes-of, rounds-of, first-none, few, Ran}
-use Rattle.solver.specs.RoundsTurn.{Turn, turn-start, turn-going, turn-ran, turn-over, over-yes, over-no}
+use Rattle.solver.specs.RoundsEvent.{Arrived, event-start, event-going, event-ran, event-over, over-yes, over-no}
 use borrow.Author.Needs.{needs}
 use Rattle.solver.proofs.rounds.run.Statement.{statement}
 use Rattle.solver.proofs.rounds.run.Tie as tie
 
 abbrev Inv-loop : tie.InvT-loop
-Inv-loop syndromes lengths events w₀ n₀ w n = Turn (w₀ .progress .solver .form) (syndromes-of syndromes) lengths n w × (n ≤ events)
+Inv-loop syndromes lengths events w₀ n₀ w n = Arrived (w₀ .progress .solver .form) (syndromes-of syndromes) lengths n w × (n ≤ events)
 
 abbrev μ-loop : tie.MeasureT-loop
 μ-loop syndromes lengths events w₀ n₀ w n = events - n
@@ -22,7 +22,7 @@ start-requires c κs = search needs
 loop-holds : tie.Need-loop-holds Inv-loop μ-loop
 loop-holds c =
     let given = c .before .before .before .args in
-    (turn-start _ _ _ _ _ (first-none (given .syndromes .now)) (own-start (given .form) _ (c .start .ensures)), omega arith)
+    (event-start _ _ _ _ _ (first-none (given .syndromes .now)) (own-start (given .form) _ (c .start .ensures)), omega arith)
 
 over-requires : tie.Need-over-requires Inv-loop μ-loop
 over-requires c κs = search needs
@@ -35,7 +35,7 @@ returns c =
     let ns = given .lengths .now in
     let ended = over-yes (w .known) (w .progress .iterations) (length ns) (w .entered) (sym (c .before .before .over .ensures) ∙ c .before .if1 .taken) in
     subst (λ f. Ran f (rounds-of (given .syndromes .now) (given .lengths .now)) (given .events) (at .loop .w .progress)) (at .before .start .ensures .0)
-    (turn-over _ _ ns (few (given .syndromes .now)) (at .loop .n) w (at .loop .inv .0) (given .events) (ended .0) (ended .1) (omega (arith, at .loop .inv .1)))
+    (event-over _ _ ns (few (given .syndromes .now)) (at .loop .n) w (at .loop .inv .0) (given .events) (ended .0) (ended .1) (omega (arith, at .loop .inv .1)))
 
 next-requires : tie.Need-next-requires Inv-loop μ-loop
 next-requires c κs =
@@ -43,7 +43,7 @@ next-requires c κs =
     let w = at .loop .w in
     let given = at .before .before .before .before .args in
     let ns = given .lengths .now in
-    turn-going _ _ ns (few (given .syndromes .now)) (at .loop .n) w (at .loop .inv .0)
+    event-going _ _ ns (few (given .syndromes .now)) (at .loop .n) w (at .loop .inv .0)
     (over-no (w .known) (w .progress .iterations) (length ns) (w .entered) (sym (c .before .over .ensures) ∙ c .if1 .left))
 
 add-n : tie.Need-add-n Inv-loop μ-loop
@@ -62,7 +62,7 @@ returns-2 c =
     let at = c .before .before in
     let given = at .before .before .before .before .args in
     subst (λ f. Ran f (rounds-of (given .syndromes .now) (given .lengths .now)) (given .events) (at .loop .w .progress)) (at .before .start .ensures .0)
-    (turn-ran _ _ (given .lengths .now) (few (given .syndromes .now)) (at .loop .n) (at .loop .w) (at .loop .inv .0) (given .events)
+    (event-ran _ _ (given .lengths .now) (few (given .syndromes .now)) (at .loop .n) (at .loop .w) (at .loop .inv .0) (given .events)
     (omega (arith, at .loop .inv .1, c .before .loop-test .left)))
 
 pub run-spec : {M : Type 1} → statement M

@@ -13,8 +13,8 @@ correctable-requires c κs = search needs
 cast-t : tie.Need-cast-t
 cast-t c = search needs
 
-known-requires : tie.Need-known-requires
-known-requires c κs = search needs
+seen-before-requires : tie.Need-seen-before-requires
+seen-before-requires c κs = search needs
 
 seen-requires : tie.Need-seen-requires
 seen-requires c κs = search needs
@@ -29,7 +29,7 @@ returns : tie.Need-returns
 returns c =
     let at = c .before .before .before .before in
     let given = at .before .before in
-    kept _ (given .pre .0) _ (given .pre .1) _ _ _ _ _ _ _ (c .before .before .before .known .ensures) (c .before .before .seen .ensures)
+    kept _ (given .pre .0) _ (given .pre .1) _ _ _ _ _ _ _ (c .before .before .before .seen-before .ensures) (c .before .before .seen .ensures)
     (at .correctable .ensures .0) (c .before .advance .ensures) (c .tried .ensures)
 
 pub attempt-spec : {M : Type 1} → statement M
@@ -39,7 +39,7 @@ attempt-spec =
     cast-n
     correctable-requires
     cast-t
-    known-requires
+    seen-before-requires
     seen-requires
     advance-requires
     tried-requires

@@ -9,7 +9,7 @@ use Rattle.series.specs.Shift.{zpow, cut}
 use Rattle.series.specs.Array.{bytes, values, read-at}
 use Rattle.kernel.specs.Store.{append-none, add-more, bytes-xor}
 use Rattle.block.specs.Parts.{inside}
-use Rattle.stages.specs.SubwordTurn.{added}
+use Rattle.stages.specs.SubwordStage.{added}
 use borrow.Author.Needs.{needs}
 use Rattle.stages.proofs.subword.correct.Statement.{statement}
 use Rattle.stages.proofs.subword.correct.Tie as tie

@@ -1,6 +1,6 @@
 -- After stage 0 no subword is called clean.
 use mathlib.Core.Path.{_∙_}
-use Rattle.stages.specs.SubwordTurn.{clean-later, clean-first}
+use Rattle.stages.specs.SubwordStage.{clean-later, clean-first}
 use borrow.Author.Needs.{needs}
 use Rattle.stages.proofs.subword.is_clean.Statement.{statement}
 use Rattle.stages.proofs.subword.is_clean.Tie as tie

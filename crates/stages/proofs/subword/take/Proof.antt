@@ -1,6 +1,6 @@
 -- Still pending, or settled and corrected.
 use Rattle.profile.specs.Laws.{unless, meets}
-use Rattle.stages.specs.SubwordTurn.{took-none, took-some}
+use Rattle.stages.specs.SubwordStage.{took-none, took-some}
 use borrow.Author.Needs.{needs}
 use Rattle.stages.proofs.subword.take.Statement.{statement}
 use Rattle.stages.proofs.subword.take.Tie as tie

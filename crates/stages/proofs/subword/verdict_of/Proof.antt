@@ -1,6 +1,6 @@
 -- Clean is no change at stage 0.
 use native.Mathlib.Omega.{arith}
-use Rattle.stages.specs.SubwordTurn.{clean-is, corrected-is}
+use Rattle.stages.specs.SubwordStage.{clean-is, corrected-is}
 use Rattle.stages.proofs.subword.verdict_of.Statement.{statement}
 use Rattle.stages.proofs.subword.verdict_of.Tie as tie
 

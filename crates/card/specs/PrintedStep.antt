@@ -1,11 +1,11 @@
--- One turn: a section of a card is judged, a line or none is printed, and another section comes next.
+-- One step: a section of a card is judged, a line or none is printed, and another section comes next.
 --
 --   whole s y        what the section s comes to that is whole, and holds y
 --   cut s            .. that is not whole
 --   step s y         .. of which y is there, or more than all of it: only its own bytes are of interest
 --   after s c        what is printed for the rest c of a card, at the front of which s comes next
 --   rest s c         .. nothing if no card leads to s
---   Turns s y l t m  the turn t was given y where s comes next, the line being l before it and m after it: it takes the step of s (of Over, if no card leads to s);
+--   Judges s y l t m  what judging hands back is t, given y where s comes next, the line being l before it and m after it: it takes the step of s (of Over, if no card leads to s);
 --                    and for every card of which y is next, what was to be printed is what t printed, and what is to be printed after it
 use Prim.Native.Nat.{ℕ, _+_, _-_, _≤_, _<_}
 use mathlib.Core.Path.{_≡_}
@@ -16,7 +16,7 @@ use lib.ListN.{length, getD, take, drop}
 use Rattle.profile.specs.Definition.{profile-of}
 use Rattle.card.specs.declared.section.Section.{Section}
 use Rattle.card.specs.declared.section.Section.the-variants.{Size, Bytes, Count, Block, End, Over}
-use Rattle.card.specs.declared.section.Turn.{Turn}
+use Rattle.card.specs.declared.section.Judged.{Judged}
 use Rattle.card.specs.SectionDefinition.{known, size, wanted, ends, over, left, from, Step, silent, refusal, Takes}
 use Rattle.card.specs.HeadingDefinition.{size-step, profile-step, count-step}
 use Rattle.card.specs.BlockLineDefinition.{text}
@@ -47,7 +47,7 @@ after Over c = []
 abbrev pub rest : Section → List ℕ → List ℕ
 rest s c = after (known s) c
 
-pub record Turns (s : Section) (y l : List ℕ) (t : Turn) (m : List ℕ) : Type 0 where
+pub record Judges (s : Section) (y l : List ℕ) (t : Judged) (m : List ℕ) : Type 0 where
   pub takes : Takes (step (known s) y) l t m
   pub size : t .size ≤ length m
   pub falls : over s ≡ false → left (t .next) < left s

@@ -3,10 +3,10 @@ use mathlib.Core.Path.{refl, sym, _∙_}
 use mathlib.Core.Bool.{true≢false}
 use Rattle.polynomial.specs.SyndromesZero.{zero-row}
 use Rattle.profile.specs.Laws.{unless, meets}
-use Rattle.stages.specs.SubwordTurn.{clean-yes, took-clean, offered}
+use Rattle.stages.specs.SubwordStage.{clean-yes, took-clean, offered}
 use borrow.Author.Needs.{needs}
-use Rattle.stages.proofs.subword.turn.Statement.{statement}
-use Rattle.stages.proofs.subword.turn.Tie as tie
+use Rattle.stages.proofs.subword.stage.Statement.{statement}
+use Rattle.stages.proofs.subword.stage.Tie as tie
 
 returns : tie.Need-returns
 returns c =
@@ -45,8 +45,8 @@ returns-3 c =
           (c .before .before .take .ensures f _ (offered _ f _ (given .args .row) _ (attempt .result) dirty ready (attempt .ensures .0) (attempt .ensures .1 .1 f ready))),
     )
 
-pub turn-spec : {M : Type 1} → statement M
-turn-spec =
+pub stage-spec : {M : Type 1} → statement M
+stage-spec =
     tie.close
     (tie.spec
     returns

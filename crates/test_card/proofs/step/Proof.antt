@@ -2,8 +2,8 @@
 use mathlib.Core.Path.{sym}
 use lib.Seq.{length-take-le}
 use borrow.Author.Needs.{needs}
-use Rattle.test_card.proofs.turn.Statement.{statement}
-use Rattle.test_card.proofs.turn.Tie as tie
+use Rattle.test_card.proofs.step.Statement.{statement}
+use Rattle.test_card.proofs.step.Tie as tie
 
 blank-requires : tie.Need-blank-requires
 blank-requires c κs = search needs
@@ -23,8 +23,8 @@ write-all-requires c κs = search needs
 returns : tie.Need-returns
 returns c = search needs
 
-pub turn-spec : {M : Type 1} → statement M
-turn-spec =
+pub step-spec : {M : Type 1} → statement M
+step-spec =
     tie.close
     (tie.spec
     blank-requires

@@ -1,9 +1,9 @@
--- The walk of `run`, turn by turn.
+-- The walk of `run`, event by event.
 --
---   Turn form s ns n w   after n events the run over the syndromes s, cut to the lengths ns, is where w says
+--   Arrived form s ns n w   after n events the run over the syndromes s, cut to the lengths ns, is where w says
 --   Going rounds w       w is not over: there is an event more, in so many rounds
 --
--- Proved: a turn's start; that it goes on by an iteration and by an entry; before its end and at its end the run is what `run` promises.
+-- Proved: the start; that it goes on by an iteration and by an entry; before its end and at its end the run is what `run` promises.
 use Prim.Native.Nat.{ℕ, zero, suc, _+_, _≤_, _<_, min}
 use mathlib.Core.Path.{_≡_, refl, sym, ap, _∙_, subst}
 use mathlib.Core.Logic.{if-pos, if-neg}
@@ -53,20 +53,20 @@ module _ (form : Form) (s : List F) (ns : List ℕ) where
   abbrev here : Walk → At (form-of form)
   here w = at-of form (take (w .known) s) (w .progress)
 
-  pub record Turn (n : ℕ) (w : Walk) : Type 0 where
+  pub record Arrived (n : ℕ) (w : Walk) : Type 0 where
     pub in-form : w .progress .solver .form ≡ form
     pub at : Here (form-of form) s ns n (here w) (w .known) (w .entered)
     pub syndromes : row (w .syndromes) ≡ entry (take (w .known) s)
     pub long : length (w .progress .swapped) ≡ 48
 
-  pub turn-start : (table : List Gf) (solver : Solver) → row table ≡ entry (take 0 s) → Is form 0 solver (form-of form .start)
-      → Turn 0 (record {
+  pub event-start : (table : List Gf) (solver : Solver) → row table ≡ entry (take 0 s) → Is form 0 solver (form-of form .start)
+      → Arrived 0 (record {
         progress = record { solver = solver; iterations = 0; swapped = replicate 48 false };
         syndromes = table;
         known = 0;
         entered = 0;
       })
-  turn-start table solver t p = record {
+  event-start table solver t p = record {
     in-form = p .0;
     at = subst (λ (q : At (form-of form)). Here (form-of form) s ns 0 q 0 0) same (here-start (form-of form) s ns);
     syndromes = t;
@@ -81,25 +81,25 @@ module _ (form : Form) (s : List F) (ns : List ℕ) where
       same : outset (form-of form) ≡ at-of form (take 0 s) (record { solver = solver; iterations = 0; swapped = replicate 48 false })
       same i = record { known = take 0 s; r = 0; state = sym (p .1) i; swapped = λ j. sym (nowhere 48 j) i }
 
-  module _ (few : length s ≤ 48) (n : ℕ) (w : Walk) (t : Turn n w) where
+  module _ (few : length s ≤ 48) (n : ℕ) (w : Walk) (t : Arrived n w) where
     abbrev p : Progress
     p = w .progress
 
     abbrev m : form-of form .State
     m = state-of form (p .iterations) (p .solver)
 
-    pub turn-iterate : p .iterations < w .known → (b : Bool) (next : Solver)
+    pub event-iterate : p .iterations < w .known → (b : Bool) (next : Solver)
         → ((f : Form) (m : form-of f .State) → Is f (p .iterations) (p .solver) m → b ≡ form-of f .swapping (p .iterations) (row (w .syndromes)) m)
         → ((f : Form) (m : form-of f .State) → Is f (p .iterations) (p .solver) m
         → Is f (p .iterations + 1) next (clip f (form-of f .iterate (p .iterations) (row (w .syndromes)) m)))
-        → Turn (n + 1) (record {
+        → Arrived (n + 1) (record {
           progress = record { solver = next; iterations = p .iterations + 1; swapped = set (p .swapped) (p .iterations) b };
           syndromes = w .syndromes;
           known = w .known;
           entered = w .entered;
         })
     unfolding note
-    turn-iterate l b next swaps iterates = record {
+    event-iterate l b next swaps iterates = record {
       in-form = goes .0;
       at = subst (λ (q : At (form-of form)). Here (form-of form) s ns (n + 1) q (w .known) (w .entered)) same now;
       syndromes = t .syndromes;
@@ -144,16 +144,16 @@ module _ (form : Form) (s : List F) (ns : List ℕ) where
             ≡ at-of form known (record { solver = next; iterations = r + 1; swapped = set (p .swapped) r b })
         same i = record { known = known; r = sym (add-one r) i; state = state-is i; swapped = λ j. noted j i }
 
-    pub turn-enter : w .known ≤ p .iterations → w .entered < length ns → (more : ℕ) (table : List Gf) (next : Solver)
+    pub event-enter : w .known ≤ p .iterations → w .entered < length ns → (more : ℕ) (table : List Gf) (next : Solver)
         → more ≡ min (w .known + getD ns (w .entered) 0) (length s) → row table ≡ entry (take more s)
         → ((f : Form) (m : form-of f .State) → Is f (p .iterations) (p .solver) m → Is f (p .iterations) next (form-of f .enter (p .iterations) (row table) m))
-        → Turn (n + 1) (record {
+        → Arrived (n + 1) (record {
           progress = record { solver = next; iterations = p .iterations; swapped = p .swapped };
           syndromes = table;
           known = more;
           entered = w .entered + 1;
         })
-    turn-enter l h more table next more-is table-is enters = record {
+    event-enter l h more table next more-is table-is enters = record {
       in-form = goes .0;
       at = subst (λ (q : At (form-of form)). Here (form-of form) s ns (n + 1) q more (w .entered + 1)) same now;
       syndromes = table-is;
@@ -184,14 +184,14 @@ module _ (form : Form) (s : List F) (ns : List ℕ) where
 
     -- ---- the end
 
-    pub turn-going : (w .known ≤ p .iterations → w .entered < length ns) → Going (length ns) w
-    turn-going more = record { left = t .at .left; few = omega (arith, t .at .fits); more = more }
+    pub event-going : (w .known ≤ p .iterations → w .entered < length ns) → Going (length ns) w
+    event-going more = record { left = t .at .left; few = omega (arith, t .at .fits); more = more }
 
     reached : (k : ℕ) → run (form-of form) (cut-rounds s ns) k ≡ here w → Ran form (cut-rounds s ns) k p
     reached k e = ran form (cut-rounds s ns) k p (t .in-form) (ap (λ (q : At (form-of form)). at-of form (q .known) p) e ∙ sym e)
 
-    pub turn-ran : (k : ℕ) → n ≡ k → Ran form (cut-rounds s ns) k p
-    turn-ran k e = reached k (rw (sym e) (here-run (form-of form) s ns n _ (w .known) (w .entered) (t .at)))
+    pub event-ran : (k : ℕ) → n ≡ k → Ran form (cut-rounds s ns) k p
+    event-ran k e = reached k (rw (sym e) (here-run (form-of form) s ns n _ (w .known) (w .entered) (t .at)))
 
-    pub turn-over : (k : ℕ) → w .known ≤ p .iterations → length ns ≤ w .entered → n ≤ k → Ran form (cut-rounds s ns) k p
-    turn-over k l h q = reached k (here-end (form-of form) s ns n _ (w .known) (w .entered) (t .at) (omega (arith, t .at .left)) h k q)
+    pub event-over : (k : ℕ) → w .known ≤ p .iterations → length ns ≤ w .entered → n ≤ k → Ran form (cut-rounds s ns) k p
+    event-over k l h q = reached k (here-end (form-of form) s ns n _ (w .known) (w .entered) (t .at) (omega (arith, t .at .left)) h k q)

@@ -2,7 +2,7 @@
 --
 --   products c       the row of c as a series: x times c, for each byte x
 --   factor l         the factor of the row l: its entry 1
---   Row l            l is a row
+--   ProductRow l            l is a row
 --   Level c w t l    the first w entries of the row of c, w a power of two, and t is w times c
 --
 -- Proved: the first 256 products of c are a row with the factor c (row-products, factor-products). A loop that doubles w goes on by level-more:
@@ -25,7 +25,7 @@ products c x = of x ⊙ c
 unfoldable pub factor : List ℕ → F
 factor l = bytes l 1
 
-pub record Row (l : List ℕ) : Type 0 where
+pub record ProductRow (l : List ℕ) : Type 0 where
   pub long : 256 ≤ length l
   pub at : (x : ℕ) → x < 256 → bytes l x ≡ of x ⊙ factor l
 
@@ -35,7 +35,7 @@ pub factor-products : (l : List ℕ) (c : F) → bytes l ≡ cut 256 (products c
 unfolding factor products
 factor-products l c e = ap (λ (f : Series). f 1) e ∙ cut-low 256 (products c) 1 (omega arith) ∙ ap (λ (s : F). s ⊙ c) of-one ∙ one-⊙ c
 
-pub row-products : (l : List ℕ) (c : F) → length l ≡ 256 → bytes l ≡ cut 256 (products c) → Row l
+pub row-products : (l : List ℕ) (c : F) → length l ≡ 256 → bytes l ≡ cut 256 (products c) → ProductRow l
 unfolding products
 row-products l c h e =
     record {
@@ -44,7 +44,7 @@ row-products l c h e =
     }
 
 -- a lookup
-pub row-at : (l : List ℕ) (x : ℕ) → Row l → x < 256 → bytes l x ≡ factor l ⊙ of x
+pub row-at : (l : List ℕ) (x : ℕ) → ProductRow l → x < 256 → bytes l x ≡ factor l ⊙ of x
 row-at l x p h = p .at x h ∙ ⊙-comm _ _
 
 -- ---- levels

@@ -5,10 +5,10 @@ use native.Mathlib.Omega.{arith}
 use Rattle.field.specs.Field.{_⊕_, val, val-zero}
 use Rattle.series.specs.Sum.{sum, sum-none}
 use Rattle.polynomial.specs.Polynomial.{poly, poly-at, below-poly}
-use Rattle.polynomial.specs.SyndromesTurned.{sum-next, turned-sum, product-past}
+use Rattle.polynomial.specs.SyndromesReversed.{sum-next, reversed-sum, product-past}
 use borrow.Author.Needs.{needs}
-use Rattle.polynomial.proofs.syndromes.convolve_turned.Statement.{statement}
-use Rattle.polynomial.proofs.syndromes.convolve_turned.Tie as tie
+use Rattle.polynomial.proofs.syndromes.convolve_reversed.Statement.{statement}
+use Rattle.polynomial.proofs.syndromes.convolve_reversed.Tie as tie
 
 abbrev Inv-loop : tie.InvT-loop
 Inv-loop t r p d₀ j₀ d j = (j ≤ 49) × (val d ≡ sum j (poly p))
@@ -39,19 +39,19 @@ loop-less c = search needs
 
 loop-again : tie.Need-loop-again Inv-loop μ-loop
 loop-again c =
-    let turn = c .before .before in
-    let inv = turn .before .loop .inv in
-    let l = turn .loop-test .taken in
+    let tested = c .before .before in
+    let inv = tested .before .loop .inv in
+    let l = tested .loop-test .taken in
     (omega arith, c .sum .ensures ∙ ap₂ _⊕_ (inv .1) (sym (poly-at _ _ l)) ∙ sym (sum-next _ _))
 
 returns-2 : tie.Need-returns-2 Inv-loop μ-loop
 returns-2 c g b e =
     let end = c .before .loop in
     let made = c .before .before in
-    end .inv .1 ∙ turned-sum _ _ _ g _ _ (omega arith) (made .before .if1 .left) (below-poly _) e (made .products .ensures)
+    end .inv .1 ∙ reversed-sum _ _ _ g _ _ (omega arith) (made .before .if1 .left) (below-poly _) e (made .products .ensures)
 
-pub convolve-turned-spec : {M : Type 1} → statement M
-convolve-turned-spec =
+pub convolve-reversed-spec : {M : Type 1} → statement M
+convolve-reversed-spec =
     tie.close
     (tie.spec
     Inv-loop

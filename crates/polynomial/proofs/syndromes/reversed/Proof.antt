@@ -7,19 +7,19 @@ use Rattle.field.specs.Field.{of, val-of}
 use Rattle.series.specs.Shift.{cut}
 use Rattle.series.specs.Array.{bytes, read-store}
 use Rattle.polynomial.specs.Polynomial.{row, row-at, below-row}
-use Rattle.polynomial.specs.SyndromesTurned.{turned, turned-at, turned-none, turned-all}
+use Rattle.polynomial.specs.SyndromesReversed.{reversed, reversed-at, reversed-none, reversed-all}
 use borrow.Author.Needs.{needs}
-use Rattle.polynomial.proofs.syndromes.turned.Statement.{statement}
-use Rattle.polynomial.proofs.syndromes.turned.Tie as tie
+use Rattle.polynomial.proofs.syndromes.reversed.Statement.{statement}
+use Rattle.polynomial.proofs.syndromes.reversed.Tie as tie
 
 abbrev Inv-loop : tie.InvT-loop
-Inv-loop s down₀ i₀ down i = (48 ≤ i) × (i ≤ 96) × (length down ≡ 144) × (bytes down ≡ cut i (turned 95 (row s)))
+Inv-loop s down₀ i₀ down i = (48 ≤ i) × (i ≤ 96) × (length down ≡ 144) × (bytes down ≡ cut i (reversed 95 (row s)))
 
 abbrev μ-loop : tie.MeasureT-loop
 μ-loop s down₀ i₀ down i = 96 - i
 
 loop-holds : tie.Need-loop-holds Inv-loop μ-loop
-loop-holds c = (search needs, search needs, length-replicate {A = ℕ} 144 0, turned-none _ (below-row _))
+loop-holds c = (search needs, search needs, length-replicate {A = ℕ} 144 0, reversed-none _ (below-row _))
 
 array-copy-out-g : tie.Need-array-copy-out-g Inv-loop μ-loop
 array-copy-out-g c = search needs
@@ -40,14 +40,14 @@ loop-again c =
       omega arith,
       length-set (now .down) (now .i) _ ∙ now .inv .2,
       read-store of 0 (now .down) (now .i) _ _ (omega (arith, now .inv .2)) (now .inv .3)
-          (sym (turned-at 95 _ (now .i) (omega arith) ∙ row-at _ _ (omega arith) ∙ val-of _)),
+          (sym (reversed-at 95 _ (now .i) (omega arith) ∙ row-at _ _ (omega arith) ∙ val-of _)),
     )
 
 returns : tie.Need-returns Inv-loop μ-loop
-returns c = turned-all _ _ _ (omega arith) (c .before .loop .inv .3)
+returns c = reversed-all _ _ _ (omega arith) (c .before .loop .inv .3)
 
-pub turned-spec : {M : Type 1} → statement M
-turned-spec =
+pub reversed-spec : {M : Type 1} → statement M
+reversed-spec =
     tie.close
     (tie.spec
     Inv-loop
