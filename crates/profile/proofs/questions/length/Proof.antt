@@ -1,7 +1,7 @@
 -- The question, with t_v.
 use borrow.Author.Needs.{needs}
-use Rattle.profile.proofs.parse.length.Statement.{statement}
-use Rattle.profile.proofs.parse.length.Tie as tie
+use Rattle.profile.proofs.questions.length.Statement.{statement}
+use Rattle.profile.proofs.questions.length.Tie as tie
 
 last-requires : tie.Need-last-requires
 last-requires c κs = search needs

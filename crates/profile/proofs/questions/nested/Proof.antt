@@ -1,7 +1,7 @@
 -- The question, its two sides one by one.
 use borrow.Author.Tests.{le-leb, lt-leb}
-use Rattle.profile.proofs.parse.nested.Statement.{statement}
-use Rattle.profile.proofs.parse.nested.Tie as tie
+use Rattle.profile.proofs.questions.nested.Statement.{statement}
+use Rattle.profile.proofs.questions.nested.Tie as tie
 
 returns : tie.Need-returns
 returns c =

@@ -3,8 +3,8 @@ use mathlib.Core.Path.{sym, _∙_}
 use borrow.Author.Tests.{le-leb, lt-leb}
 use Rattle.profile.specs.Laws.{unless, meets}
 use borrow.Author.Needs.{needs}
-use Rattle.profile.proofs.parse.capabilities.Statement.{statement}
-use Rattle.profile.proofs.parse.capabilities.Tie as tie
+use Rattle.profile.proofs.questions.capabilities.Statement.{statement}
+use Rattle.profile.proofs.questions.capabilities.Tie as tie
 
 returns : tie.Need-returns
 returns c = rw (lt-leb 1 (c .before .before .args .p .t0) (c .if1 .taken))

@@ -1,7 +1,7 @@
 -- Above v or not.
 use borrow.Author.Tests.{le-leb, lt-leb}
-use Rattle.profile.proofs.parse.step.Statement.{statement}
-use Rattle.profile.proofs.parse.step.Tie as tie
+use Rattle.profile.proofs.questions.step.Statement.{statement}
+use Rattle.profile.proofs.questions.step.Tie as tie
 
 returns : tie.Need-returns
 returns c =
