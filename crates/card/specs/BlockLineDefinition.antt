@@ -18,7 +18,7 @@ use Rattle.profile.specs.declared.Answer.the-variants.{Accepted, Refused}
 use Rattle.profile.specs.Definition.{block-size, number-of}
 use Rattle.block.specs.CodewordDefinition.{Tables}
 use Rattle.staged_decoding.specs.Definition.{decode}
-use Rattle.decoder.specs.PreparedDefinition.{Result, read, refused, concluded}
+use Rattle.decoder.specs.Definition.{Result, read, refused, concluded}
 use Rattle.listing.specs.Definition.{ok-line, refused-line}
 use Rattle.card.specs.declared.section.Section.{Section}
 use Rattle.card.specs.declared.section.Section.the-variants.{Size, Bytes, Count, Block, End, Over}

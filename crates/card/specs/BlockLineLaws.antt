@@ -10,7 +10,7 @@ use Rattle.profile.specs.declared.Profile.{Profile}
 use Rattle.profile.specs.declared.Answer.{Answer}
 use Rattle.profile.specs.Definition.{block-size}
 use Rattle.block.specs.Parts.{Fits}
-use Rattle.decoder.specs.PreparedDefinition.{Result, read, refused, answer-to, report-of}
+use Rattle.decoder.specs.Definition.{Result, read, refused, answer-to, report-of}
 use Rattle.listing.specs.Definition.{ok-line, Printed}
 use Rattle.card.specs.SectionDefinition.{accepts}
 use Rattle.card.specs.SectionLaws.{accepts-valid}

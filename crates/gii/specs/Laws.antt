@@ -25,9 +25,9 @@ use Rattle.profile.specs.LayoutDefinition.{if-accepted, start}
 use Rattle.profile.specs.FetchDefinition.{fetching, part, empty, refuses}
 use Rattle.solver.specs.declared.Form.{Form}
 use Rattle.solver.specs.declared.Form.the-variants.{Plain}
-use Rattle.stages.specs.View.{says}
-use Rattle.decoder.specs.declared.prepared.Report.{Report}
-use Rattle.decoder.specs.PreparedDefinition.{Result, answer-to, report-of, Tells}
+use Rattle.stages.specs.Report.{says, Tells}
+use Rattle.stages.specs.declared.report.Report.{Report}
+use Rattle.decoder.specs.Definition.{Result, answer-to, report-of}
 use Rattle.gii.specs.NumbersDefinition.{stage-of, listed, filled}
 use Rattle.gii.specs.Definition.{Stands, form-of, numbers}
 

@@ -10,7 +10,7 @@ ghost use Rattle.profile.specs.Definition.{profile-of, answer-of, answer-number
 ghost use Rattle.profile.specs.LayoutDefinition.{if-accepted, start as Start};
 ghost use Rattle.profile.specs.FetchDefinition.{fetching, part as Part, refuses};
 ghost use Rattle.encoder.specs.Definition.{writing, written};
-ghost use Rattle.decoder.specs.PreparedDefinition.{answer-to, block-of};
+ghost use Rattle.decoder.specs.Definition.{answer-to, block-of};
 ghost use Rattle.decoder.specs.Definition.{reading};
 ghost use Rattle.gii.specs.NumbersDefinition.{filled};
 ghost use Rattle.gii.specs.Definition.{Stands, form-of, numbers};

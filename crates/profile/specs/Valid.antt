@@ -2,26 +2,29 @@
 --
 --   Valid p    the profile p passes questions 2 to 5
 --
--- Proved: a profile that is admitted is valid; capabilities rise, to 24 at most; subwords with a smaller number have more check
+-- Proved: a profile that is admitted is valid, and the sizes are right (writing-passed, reading-passed; reading-admitted says the
+-- converse); capabilities rise, to 24 at most; subwords with a smaller number have more check
 -- symbols, each has at least 2 t0, at most 48 and fewer than n; the data size counts the data positions, so data symbols have
 -- numbers below it.
 use Prim.Native.Nat.{ℕ, zero, suc, _+_, _-_, _*_, _≤_, _<_}
-use mathlib.Core.Path.{_≡_, refl, _∙_, subst}
+use mathlib.Core.Path.{_≡_, refl, sym, ap, _∙_, subst}
 use mathlib.Core.Bool.{Bool, true, false, cond, and-eq-true-iff}
 use mathlib.Core.List.{List}
 use native.Mathlib.Nat.{zero-mul, suc-mul, add-zero, add-suc, sub-zero}
 use native.Mathlib.Decide.{decLt}
 use native.Mathlib.Omega.{arith}
-use borrow.Author.Tests.{leb-true, ltb-true, le-leb, lt-ltb, le-ltb}
+use borrow.Author.Tests.{leb-true, ltb-true, eqb-true, le-leb, lt-ltb, le-ltb, eq-eqb}
 use lib.Dec.{leb}
 use lib.ListN.{getD}
 use Rattle.profile.specs.declared.Profile.{Profile}
 use Rattle.profile.specs.declared.Parsed.the-variants.{Accepted}
 use Rattle.profile.specs.declared.questions.Caller.{Caller}
+use Rattle.profile.specs.declared.questions.Caller.the-variants.{Encoder, Decoder, Card}
 use Rattle.profile.specs.declared.questions.Lent.{Lent}
-use Rattle.profile.specs.Definition.{capability, last, checks, capability-sum, data-size, data-start}
+use Rattle.profile.specs.Definition.{capability, last, checks, capability-sum, block-size, data-size, data-start}
 use Rattle.profile.specs.Questions.{good-step, good-capabilities, asked, read, lent, admitted}
-use Rattle.profile.specs.QuestionsLaws.{asked-yes}
+use Rattle.profile.specs.Questions.{profile-of, writing, reading-of}
+use Rattle.profile.specs.QuestionsLaws.{asked-yes, asked-all}
 
 pub record Valid (p : Profile) : Type 0 where
   pub subwords : (1 ≤ p .subwords) × (p .subwords ≤ 8)
@@ -81,6 +84,29 @@ asked-valid c l p q e small =
       most = leb-true (last p) 24 (parts p g3 .4);
       length = (ltb-true _ _ g4, small);
     })
+
+-- what the sizes are for whoever writes or reads a block; n is a byte
+module _ (b : List ℕ) (d o : ℕ) (p : Profile) where
+  pub writing-passed : writing b d o ≡ Accepted p → p .length ≤ 255 → Valid p × (d ≡ data-size p) × (o ≡ block-size p)
+  writing-passed e small =
+      let (same, (_, (_, (_, (_, (_, (input, (_, (output, _))))))))) = asked-yes Encoder (lent b d o 0) (read b) p e in
+      let valid = asked-valid Encoder (lent b d o 0) (read b) p e (rw (ap (λ q. q .length) same) small) in
+      (valid, eqb-true d (data-size (read b)) input ∙ ap data-size same, eqb-true o (block-size (read b)) output ∙ ap block-size same)
+
+  pub reading-passed : reading-of b d o ≡ Accepted p → p .length ≤ 255 → Valid p × (d ≡ block-size p) × (o ≡ block-size p)
+  reading-passed e small =
+      let (same, (_, (_, (_, (_, (_, (_, (input, (output, _))))))))) = asked-yes Decoder (lent b d o 0) (read b) p e in
+      let valid = asked-valid Decoder (lent b d o 0) (read b) p e (rw (ap (λ q. q .length) same) small) in
+      (valid, eqb-true d (block-size (read b)) input ∙ ap block-size same, eqb-true o (block-size (read b)) output ∙ ap block-size same)
+
+  -- the sizes are right
+  pub reading-admitted : profile-of b ≡ Accepted p → d ≡ block-size p → o ≡ block-size p → reading-of b d o ≡ Accepted p
+  reading-admitted e input output =
+      let (same, (y1, (y2, (y3, (y4, (y5, _)))))) = asked-yes Card (lent b 0 0 0) (read b) p e in
+      let block = ap block-size same in
+      asked-all Decoder (lent b d o 0) (read b)
+      (y1, (y2, (y3, (y4, (y5, (refl, (eq-eqb _ _ (input ∙ sym block), (eq-eqb _ _ (output ∙ sym block), (refl, tt)))))))))
+      ∙ ap Accepted same
 
 -- byte 2 of a profile is the length
 pub admitted-valid : (c : Caller) (b : List ℕ) (d o i : ℕ) (q : Profile) → admitted c b d o i ≡ Accepted q → getD b 2 0 ≤ 255

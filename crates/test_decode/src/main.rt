@@ -19,12 +19,12 @@ ghost use Prim.Native.Nat.{_≤_};
 ghost use mathlib.Core.Path.{_≡_};
 ghost use lib.ListN.{length};
 ghost use Rattle.io.specs.Counts.{Counts};
-use decoder::prepared::Report;
 use profile::Answer;
 use profile::Parsed;
 use profile::Profile;
 use profile::Refusal;
 use solver::Form;
+use stages::report::Report;
 use test_support::input;
 use test_support::print;
 

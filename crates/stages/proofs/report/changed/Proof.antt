@@ -4,11 +4,11 @@ use mathlib.Core.Path.{_≡_, ap, _∙_}
 use native.Mathlib.Omega.{arith}
 use lib.ListN.{length}
 use Rattle.staged_decoding.specs.Definition.{total, count-of}
-use Rattle.stages.specs.View.{says}
-use Rattle.decoder.specs.PreparedLaws.{changed-none, changed-more}
+use Rattle.stages.specs.Report.{says}
+use Rattle.stages.specs.Lines.{changed-none, changed-more}
 use borrow.Author.Needs.{needs}
-use Rattle.decoder.proofs.prepared.changed.Statement.{statement}
-use Rattle.decoder.proofs.prepared.changed.Tie as tie
+use Rattle.stages.proofs.report.changed.Statement.{statement}
+use Rattle.stages.proofs.report.changed.Tie as tie
 
 abbrev Inv-loop : tie.InvT-loop
 Inv-loop m lines sum₀ i₀ sum i = (i ≤ m) × (length lines ≡ 8) × (sum ≤ 255 * i) × (sum ≡ total i (λ k. count-of (says lines k)))

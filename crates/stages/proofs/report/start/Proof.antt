@@ -1,8 +1,8 @@
 -- Eight times the same line.
 use Rattle.stages.specs.Lines.{started}
 use borrow.Author.Needs.{needs}
-use Rattle.stages.proofs.start.Statement.{statement}
-use Rattle.stages.proofs.start.Tie as tie
+use Rattle.stages.proofs.report.start.Statement.{statement}
+use Rattle.stages.proofs.report.start.Tie as tie
 
 start-requires : tie.Need-start-requires
 start-requires c κs = search needs
