@@ -31,7 +31,8 @@ use Rattle.key_equation.specs.Run.{Factors, plain, scaled, joined, measure, fac
 use Rattle.key_equation.specs.Measure.{measure-below}
 use Rattle.key_equation.specs.Ends.{finish, plain-end, scaled-end, scaled-end-Λ, scaled-end-B}
 use Rattle.profile.specs.declared.Parsed.the-variants.{Accepted}
-use Rattle.profile.specs.Definition.{read, profile-of, block-size, data-size}
+use Rattle.profile.specs.Definition.{block-size, data-size}
+use Rattle.profile.specs.Questions.{asked, read, profile-of}
 use Rattle.code.specs.Word.{root, syndrome}
 use Rattle.code.specs.Definition.{subword, nested}
 use Rattle.code.specs.Encoding.{encoding, encoding-bytes}

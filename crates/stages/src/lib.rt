@@ -109,14 +109,8 @@ pub fn run(
     ensures { λ e. ⌜ Reached p form (bytes (now (block .entry))) (bytes (now (block .exit))) e ⌝ }
 {
     let mut table = syndromes;
-    let first = stage(
-        p,
-        0,
-        [true; SUBWORDS],
-        crate::report::start(form),
-        table,
-        block,
-    );
+    let fresh = crate::report::start(form);
+    let first = stage(p, 0, [true; SUBWORDS], fresh, table, block);
     let mut pending = first.pending;
     let mut lines = first.lines;
     let mut r: u8 = 0;
