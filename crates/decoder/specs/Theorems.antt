@@ -6,7 +6,7 @@
 --   Alike f g e k a c  the readings a and c end alike, but for the solvers, which stand at the end of the same rounds in each form
 --
 -- Proved: an accepted block is a codeword, always (read-accepts, read-codeword); a block with right sizes is decoded as staged decoding says (reading-is); a written
--- block is restored under document 01's condition (read-restores), and one that was not touched always (read-written); the answer is 8 exactly if
+-- block is restored under the condition of FORMAT 6.11 (read-restores), and one that was not touched always (read-written); the answer is 8 exactly if
 -- decoding fails (read-fails), where no mistake is made exactly if too many subwords have too many changes (read-fails-exactly). Two readings of the
 -- same bytes that differ in the form alone end alike (alike).
 use Prim.Native.Nat.{ℕ, _<_}

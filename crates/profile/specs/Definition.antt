@@ -1,6 +1,6 @@
 -- Profiles, refusals with their numbers, and sizes.
 --
---   capability p r   t_r, 0 past t_3: document 01's strengths
+--   capability p r   t_r, 0 past t_3
 --   last p           t_v
 --   answer-of a      the answer alone
 --   number-of q      the number of a refusal; answer-number a: 0, or that of the refusal
@@ -59,7 +59,7 @@ answer-number (answer.Refused q) = number-of q
 abbrev pub block-size : Profile → ℕ
 block-size p = p .subwords * p .length
 
--- "Strip i has 2 × t_(v−i) check bytes if i is below v, else 2 × t0."
+-- FORMAT 2.4: 2 × t_(v−i) for the first v subwords, 2 × t0 for the others
 abbrev pub checks : Profile → ℕ → ℕ
 checks p i = 2 * cond (ltb i (p .nested)) (capability p (p .nested - i)) (p .t0)
 
@@ -68,17 +68,17 @@ abbrev pub capability-sum : Profile → ℕ → ℕ
 capability-sum p zero = 0
 capability-sum p (suc r) = capability-sum p r + capability p (suc r)
 
--- "The data size is m×n − 2×(t1+..+tv) − 2×(m−v)×t0."
+-- FORMAT 2.5
 abbrev pub data-size : Profile → ℕ
 data-size p = block-size p - 2 * capability-sum p (p .nested) - 2 * ((p .subwords - p .nested) * p .t0)
 
 -- ---- positions
 
--- Positions below `checks p i` of subword i hold its check symbols, those from there on its data: "They are its first places; the others are data places."
+-- FORMAT 3.6: positions below `checks p i` of subword i hold its check symbols, those from there on its data
 abbrev pub data-length : Profile → ℕ → ℕ
 data-length p i = p .length - checks p i
 
--- "Data fills them strip by strip, places rising": position `checks p i + q` of subword i holds data symbol `data-start p i + q`
+-- FORMAT 3.7: position `checks p i + q` of subword i holds data symbol `data-start p i + q`
 abbrev pub data-start : Profile → ℕ → ℕ
 data-start p zero = 0
 data-start p (suc i) = data-start p i + data-length p i

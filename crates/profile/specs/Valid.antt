@@ -176,7 +176,7 @@ module _ (p : Profile) (ok : Valid p) where
       let c : checks p (p .nested + k) ≡ 2 * p .t0 = checks-high p (p .nested + k) (omega arith) in
       rw add-suc (omega (arith, start-high k, c, checks-below (p .nested + k), suc-mul (p .nested + k) (p .length), suc-mul k (p .t0)))
 
-  -- "The data size" counts the data positions
+  -- the data size counts the data positions
   pub data-size-is : data-start p (p .subwords) ≡ data-size p
   data-size-is =
       let e : p .nested + (p .subwords - p .nested) ≡ p .subwords = omega arith in
