@@ -1,7 +1,8 @@
 /* How fast the codec is, beside libfec on the same strips in the same run.
  *
- * Profile 8 3 255 14 16 18 24: a block is eight strips of 255 bytes. libfec does RS(255,227) on each strip, which is the strips' own code, without the nested sums.
- * A row is timed in batches, and the best batch counts; the two programs take turns. MB/s are 10^6 bytes of block a second, on one core.
+ * Profile 8 3 255 14 16 18 24: a block is eight strips of 255 bytes. libfec does RS(255,227) on each strip, which is
+ * the strips' own code, without the nested sums. A row is timed in batches, and the best batch counts; the two programs
+ * take turns. MB/s are 10^6 bytes of block a second, on one core.
  */
 #include <fec.h>
 #include <stdint.h>
@@ -114,9 +115,17 @@ static void row(const char *name, void (*ours)(int), int form, void (*theirs)(vo
 {
     double best = 0, fec = 0;
     int turns = 1;
-    for (double t = 0; t < 0.02; turns *= 2) { double a = now(); for (int k = 0; k < turns; k++) ours(form); t = now() - a; }
+    for (double t = 0; t < 0.02; turns *= 2) {
+        double a = now();
+        for (int k = 0; k < turns; k++) ours(form);
+        t = now() - a;
+    }
     int slow = 1;
-    for (double t = 0; t < 0.02; slow *= 2) { double a = now(); for (int k = 0; k < slow; k++) theirs(); t = now() - a; }
+    for (double t = 0; t < 0.02; slow *= 2) {
+        double a = now();
+        for (int k = 0; k < slow; k++) theirs();
+        t = now() - a;
+    }
     for (int batch = 0; batch < 12; batch++) {
         double a = now();
         for (int k = 0; k < turns; k++) ours(form);
@@ -143,7 +152,8 @@ int main(void)
     check(rs != NULL && data_size == 1784, "the profile");
     for (int b = 0; b < BLOCKS; b++) {
         for (size_t k = 0; k < data_size; k++) data[b][k] = draw();
-        check(gii_encode(profile, sizeof profile, data[b], data_size, written[b], BLOCK) == 0, "a block was not written");
+        check(gii_encode(profile, sizeof profile, data[b], data_size, written[b], BLOCK) == 0,
+              "a block was not written");
         for (int i = 0; i < STRIPS; i++) {
             for (int p = 0; p < N; p++) strips[b][i][N - 1 - p] = written[b][i * N + p];
             memcpy(work, strips[b][i], N);
