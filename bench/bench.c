@@ -162,15 +162,15 @@ int main(void)
     }
     printf("| %-52s | %8s | %8s | %6s |\n", "profile 8 3 255 14 16 18 24, MB/s", "here", "libfec", "ratio");
     printf("|---|---|---|---|\n");
-    row("encode", our_encode, 0, fec_encode);
-    reading("decode, clean block", CLEAN, 0);
-    reading("decode, one change in one subword", ONE_IN_ONE, 0);
-    reading("decode, t0 = 14 changes in one subword", T0_IN_ONE, 0);
-    reading("decode, t0 + 1 = 15 changes in one subword", MORE_IN_ONE, 0);
-    reading("decode, t1 = 16 changes in one subword, plain", T1_IN_ONE, 0);
-    reading("decode, t1 = 16 changes in one subword, lookahead", T1_IN_ONE, 1);
-    reading("decode, t1 = 16 changes in one subword, scaled", T1_IN_ONE, 2);
-    reading("decode, one change in every subword", ONE_IN_EACH, 0);
-    reading("decode, t0 = 14 changes in every subword", T0_IN_EACH, 0);
+    row("write", our_encode, 0, fec_encode);
+    reading("read, clean block", CLEAN, 0);
+    reading("read, one change in one strip", ONE_IN_ONE, 0);
+    reading("read, t0 = 14 changes in one strip", T0_IN_ONE, 0);
+    reading("read, t0 + 1 = 15 changes in one strip", MORE_IN_ONE, 0);
+    reading("read, t1 = 16 changes in one strip, plain", T1_IN_ONE, 0);
+    reading("read, t1 = 16 changes in one strip, ahead", T1_IN_ONE, 1);
+    reading("read, t1 = 16 changes in one strip, scaled", T1_IN_ONE, 2);
+    reading("read, one change in every strip", ONE_IN_EACH, 0);
+    reading("read, t0 = 14 changes in every strip", T0_IN_EACH, 0);
     return 0;
 }
