@@ -1,6 +1,6 @@
 #!/bin/sh
-# Builds the static library of `gii`, links the C and the Rust program with it, runs both, and compares what they print with `expected`.
-# It needs rt, cc and rustc on the path, on x86-64 Linux. The gate does not run it.
+# Builds the static library of `gii`, links the C and the Rust program with it, runs both, and compares what they print
+# with `expected`. It needs rt, cc and rustc on the path, on x86-64 Linux. The gate does not run it.
 set -eu
 cd "$(dirname "$0")/.."
 built=target/examples

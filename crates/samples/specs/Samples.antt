@@ -1,4 +1,4 @@
--- Document 01's proved samples: one table, and one theorem for the whole table.
+-- The proved samples of FORMAT 10.1, 10.3 and 10.9: one table, and one theorem for the whole table.
 --
 --   Sample     a sample, by its kind
 --   Claim s    what the sample says, in the words of the definitions
@@ -57,7 +57,7 @@ Claim (plain-run S Λ B γ k) = finish plain (map of S ∷ []) .state ≡ record
 Claim (scaled-run S Λ B γ′) =
     (finish scaled (map of S ∷ []) .state .Λ ≡ bytes Λ) × (finish scaled (map of S ∷ []) .state .B ≡ bytes B) × (finish scaled (map of S ∷ []) .state .γ′ ≡ of γ′)
 
--- where the paper leaves γ or k out, the model's stands here
+-- P1 to P9 are the names that the customer gave them; where γ or k was left open, the model's stands here
 unfoldable pub samples : List Sample
 samples =
     product 2 128 29  -- P1
