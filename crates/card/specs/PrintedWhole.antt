@@ -63,9 +63,12 @@ step-good s y l m t g h = ap good (h .next) ∙ go (ltb (length y) (size s))
     go false = whole-good s (take (size s) y) g
 
 -- what holds of the section that is known in place of another holds of that
-pub judges-known : (s : Section) (y l m : List ℕ) (t : Judged) → Judges (known s) y l t m → ((j : ℕ) → getD y j 0 ≤ 255)
-    → Judges s y l t m
-judges-known s y l m t h = judges s y l m t (subst (λ r. Takes (step r y) l t m) (good-known (known s) (known-good s)) (h .takes))
+pub judges-known : (s r : Section) (y l m : List ℕ) (t : Judged) → r ≡ known s → Judges r y l t m
+    → ((j : ℕ) → getD y j 0 ≤ 255) → Judges s y l t m
+judges-known s r y l m t e h = judges s y l m t (subst (λ r. Takes (step r y) l t m) is (h .takes))
+  where
+    is : known r ≡ known s
+    is = ap known e ∙ good-known (known s) (known-good s)
 
 pub data Run : Section → List ℕ → List ℕ → Type 0 where
   over : (c : List ℕ) → Run Over c []

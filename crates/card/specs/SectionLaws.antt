@@ -1,15 +1,16 @@
 -- What the tests of profiles and sections come to.
 --
 -- Proved: a profile that is accepted, n being a byte, is valid (accepts-valid), and its blocks have at most 2040 bytes
--- (accepts-size); the profile of bytes that are accepted is (profile-accepts); the section that is known in place of another is
+-- (accepts-size, block-most); the profile of bytes that are accepted is (profile-accepts); the section that is known in place of another is
 -- one that a card leads to (known-good), and in place of such a one it is itself (good-known); judging that prints nothing
 -- (takes-silent).
 use Prim.Native.Nat.{ℕ, _≤_}
 use mathlib.Core.Path.{_≡_, refl, sym, ap, _∙_, subst, subst⁻¹}
-use mathlib.Core.Bool.{Bool, true, false, cond, true≢false}
+use mathlib.Core.Bool.{Bool, true, false, cond, true≢false, and-eq-true-iff}
 use mathlib.Core.List.{List}
 use native.Mathlib.Nat.{le-trans, mul-le-mul-right}
 use native.Mathlib.Omega.{arith}
+use lib.Dec.{ltb}
 use Rattle.profile.specs.declared.Profile.{Profile}
 use Rattle.profile.specs.declared.Parsed.{Parsed}
 use Rattle.profile.specs.declared.Parsed.the-variants.{Accepted, Refused}
@@ -19,9 +20,9 @@ use Rattle.profile.specs.Questions.{asked, read, lent, profile-of}
 use Rattle.profile.specs.QuestionsLaws.{asked-yes, asked-all}
 use Rattle.profile.specs.Valid.{Valid, asked-valid}
 use Rattle.card.specs.declared.section.Section.{Section}
-use Rattle.card.specs.declared.section.Section.the-variants.{Over}
+use Rattle.card.specs.declared.section.Section.the-variants.{Block, Over}
 use Rattle.card.specs.declared.section.Judged.{Judged}
-use Rattle.card.specs.SectionDefinition.{passes, alone, accepts, good, known, Step, silent, Takes}
+use Rattle.card.specs.SectionDefinition.{passes, alone, accepts, good, known, size, Step, silent, Takes}
 
 module _ (p : Profile) where
   pub accepts-valid : accepts p ≡ true → p .length ≤ 255 → Valid p
@@ -48,6 +49,14 @@ profile-accepts b q e =
     let (same, (_, (y2, (y3, (y4, (y5, _)))))) = asked-yes Card (lent b 0 0 0) (read b) q e in
     let all = asked-all Card alone (read b) (refl, (y2, (y3, (y4, (y5, (refl, (refl, (refl, (refl, tt))))))))) in
     subst (λ q. passes (asked Card alone q) ≡ true) same (ap passes all)
+
+-- a block section has the bytes of a block, few enough
+pub block-most : (s : Section) (p : Profile) (i k n : ℕ) → s ≡ Block p i k → n ≡ block-size p → p .length ≤ 255
+    → (n ≡ size s) × (good s ≡ true → n ≤ 2040)
+block-most s p i k n is count small = (
+  count ∙ sym (ap size is),
+  λ e. rw count (accepts-size p (and-eq-true-iff (ltb i k) _ .0 (sym (ap good is) ∙ e) .1) small),
+)
 
 pub known-good : (s : Section) → good (known s) ≡ true
 known-good s = go (good s) refl

@@ -139,7 +139,7 @@ all-holding [] t = tt
 all-holding (s ∷ ss) t = let (t0, t1) = and-both (test s) _ t in (holding s t0, all-holding ss t1)
 
 computed : T (tests samples)
-unfolding samples tests test plain-test scaled-test equal same sameℤ passes accepted codeword carries encodes all Array.read entry
+unfolding samples tests test plain-test scaled-test equal same sameℤ asked passes accepted codeword carries encodes all Array.read entry
     subword nested syndrome root value joined measure factors Plain.iterate Plain.δ swaps from-to sum O K Z _⊞_ _⊠_
     𝟎 𝟏 α _⊕_ _⊙_ of byte isOdd bit isZero pow inv plus times scale z⁸ horner modulo coefficients xor
 computed = tt

@@ -29,7 +29,7 @@ fn parsed(number: u8, size: usize) {
 }
 
 fn profile_case(profile: &[u8]) {
-    match profile::parse::parse(profile) {
+    match profile::questions::parse(profile) {
         Parsed::Accepted(p) => parsed(0, p.data_size()),
         Parsed::Refused(q) => parsed(profile::number(q), 0),
     }

@@ -90,7 +90,7 @@ fn show(p: Profile, block: &[u8], out: &[u8], report: Report, states: bool) {
 }
 
 fn accepted(profile: &[u8], block: &[u8], out: &[u8], report: Report, states: bool) {
-    match profile::parse::parse(profile) {
+    match profile::questions::parse(profile) {
         Parsed::Accepted(p) => show(p, block, out, report, states),
         Parsed::Refused(_) => print::text(b" accepted with a refused profile\n"),
     }

@@ -19,10 +19,17 @@ known-requires : tie.Need-known-requires
 known-requires c κs = search needs
 
 judge-kept-requires : tie.Need-judge-kept-requires
-judge-kept-requires c κs = ?
+judge-kept-requires c κs =
+    let known-is = c .before .before .before in
+    (ap good (known-is .known .ensures) ∙ known-good (known-is .before .before .before .before .args .s), λ e. absurd (true≢false (sym e)))
 
 returns : tie.Need-returns
-returns c = ?
+returns c =
+    let known-is = c .before .before .before .before in
+    let lent = known-is .before .before .before in
+    let given = lent .before .args in
+    judges-known (given .s) _ (given .bytes .now) _ _ _ (known-is .known .ensures) (c .judge-kept .ensures .0) (λ j.
+        omega (arith, lent .shared-slice-known .given j))
 
 pub judge-spec : {M : Type 1} → statement M
 judge-spec =

@@ -22,13 +22,13 @@ returns c =
     let sized = c .before .before .before in
     let known = sized .before in
     let given = known .before in
+    let s = given .args .s in
     let y = given .args .bytes .now in
     let good = given .pre .0 in
-    let short = step-cut (given .args .s) y (omega (arith, c .before .before .if1 .taken, sized .size .ensures .0)) in
+    let short = step-cut s y (omega (arith, c .before .before .if1 .taken, sized .size .ensures .0)) in
     let takes = takes-as short (c .cut .ensures) in (
-      judges-good _ y _ _ _ good takes (λ j. omega (arith, known .shared-slice-known .given j)),
-      kept-as _ _ (c .cut .ensures .next) (cut-kept (given .args .t .now) (given .args .u .now) (given .args .s)),
-      step-good _ y _ _ _ good takes,
+      judges-good s y _ _ _ good takes (λ j. omega (arith, known .shared-slice-known .given j)),
+      (kept-as _ _ (c .cut .ensures .next) (cut-kept (given .args .t .now) (given .args .u .now) s), step-good s y _ _ _ good takes),
     )
 
 slice-aggregate-whole : tie.Need-slice-aggregate-whole
@@ -56,8 +56,7 @@ returns-2 c =
     let (did, made) = c .whole .ensures in
     let takes = takes-as (ap (λ n. whole s (take n y)) size-is ∙ all) did in (
       judges-good s y _ _ _ good takes (λ j. omega (arith, known .shared-slice-known .given j)),
-      kept-as _ _ (did .next) (made-next _ _ s _ made),
-      step-good s y _ _ _ good takes,
+      (kept-as _ _ (did .next) (made-next _ _ s _ made), step-good s y _ _ _ good takes),
     )
 
 pub judge-kept-spec : {M : Type 1} → statement M

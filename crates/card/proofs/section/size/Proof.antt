@@ -1,9 +1,8 @@
 -- A block is m times n bytes.
-use mathlib.Core.Path.{sym, ap, _∙_}
-use mathlib.Core.Bool.{and-eq-true-iff}
+use mathlib.Core.Path.{sym, ap}
 use native.Mathlib.Omega.{arith}
-use Rattle.card.specs.SectionDefinition.{good, size}
-use Rattle.card.specs.SectionLaws.{accepts-size}
+use Rattle.card.specs.SectionDefinition.{size}
+use Rattle.card.specs.SectionLaws.{block-most}
 use borrow.Author.Needs.{needs}
 use Rattle.card.proofs.section.size.Statement.{statement}
 use Rattle.card.proofs.section.size.Tie as tie
@@ -39,13 +38,7 @@ returns-3 : tie.Need-returns-3
 returns-3 c = (sym (ap size (c .enum-told3 .given .1)), λ _. omega arith)
 
 returns-4 : tie.Need-returns-4
-returns-4 c =
-    let told = c .before .before in
-    let is = told .s .given .1 in
-    let small : told .s .n0 .length ≤ 255 = omega arith in (
-      c .block-size .ensures ∙ sym (ap size is),
-      λ e. rw (c .block-size .ensures) (accepts-size _ (and-eq-true-iff _ _ .0 (sym (ap good is) ∙ e) .1) small),
-    )
+returns-4 c = block-most _ _ _ _ _ (c .before .before .s .given .1) (c .block-size .ensures) (search needs)
 
 returns-5 : tie.Need-returns-5
 returns-5 c = (sym (ap size (c .enum-told4 .given .1)), λ _. omega arith)
