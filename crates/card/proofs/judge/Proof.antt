@@ -29,7 +29,7 @@ returns c =
     let lent = known-is .before .before .before in
     let given = lent .before .args in
     judges-known (given .s) _ (given .bytes .now) _ _ _ (known-is .known .ensures) (c .judge-kept .ensures .0) (λ j.
-        omega (arith, lent .shared-slice-known .given j))
+    omega (arith, lent .shared-slice-known .given j))
 
 pub judge-spec : {M : Type 1} → statement M
 judge-spec =

@@ -36,7 +36,10 @@ size-requires : tie.Need-size-requires Inv-loop μ-loop
 size-requires c κs = search needs
 
 array-borrow-prefix-bytes : tie.Need-array-borrow-prefix-bytes Inv-loop μ-loop
-array-borrow-prefix-bytes c = ?
+array-borrow-prefix-bytes c =
+    let sized = c .before .before in
+    let now = sized .before .before .before .loop in
+    omega (arith, sized .size .ensures .1 (now .inv .1), now .inv .0)
 
 slice-aggregate-step : tie.Need-slice-aggregate-step Inv-loop μ-loop
 slice-aggregate-step c =
@@ -58,7 +61,7 @@ loop-again c =
     let sized = c .before .before .before .before .before in
     let now = sized .before .before .before .loop in
     let same = length-front (now .bytes) (step .last .1 .1 .1 .0) (sized .size .result) (step .kept .1 .1 .1 .0) in
-    (same ∙ now .inv .0, step .ensures .1)
+    (same ∙ now .inv .0, step .ensures .1 .0, step .ensures .1 .1)
 
 returns : tie.Need-returns Inv-loop μ-loop
 returns c = search needs

@@ -36,7 +36,7 @@ read-block-requires c κs =
     let fits = prepared .before .before .before .before .pre .0 in
     let n = length (prepared .before .before .before .before .args .block .now) in
     let long : n ≤ length (made .blank .result) =
-        omega (arith, made .blank .ensures, inside _ _ 0 fits (fits .valid .subwords .0)) in
+    omega (arith, made .blank .ensures, inside _ _ 0 fits (fits .valid .subwords .0)) in
     (fits, length-take-le _ _ long, prepared .prepare .ensures)
 
 returns : tie.Need-returns
