@@ -1,7 +1,8 @@
 /* How fast the codec is, beside libfec on the same strips in the same run.
  *
- * Profile 8 3 255 14 16 18 24: a block is eight strips of 255 bytes. libfec does RS(255,227) on each strip, which is the strips' own code, without the nested sums.
- * A row is timed in batches, and the best batch counts; the two programs take turns. MB/s are 10^6 bytes of block a second, on one core.
+ * Profile 8 3 255 14 16 18 24: a block is eight strips of 255 bytes. libfec does RS(255,227) on each strip, which is
+ * the strips' own code, without the nested sums. A row is timed in batches, and the best batch counts; the two programs
+ * take turns. MB/s are 10^6 bytes of block a second, on one core.
  */
 #include <fec.h>
 #include <stdint.h>
@@ -114,9 +115,17 @@ static void row(const char *name, void (*ours)(int), int form, void (*theirs)(vo
 {
     double best = 0, fec = 0;
     int turns = 1;
-    for (double t = 0; t < 0.02; turns *= 2) { double a = now(); for (int k = 0; k < turns; k++) ours(form); t = now() - a; }
+    for (double t = 0; t < 0.02; turns *= 2) {
+        double a = now();
+        for (int k = 0; k < turns; k++) ours(form);
+        t = now() - a;
+    }
     int slow = 1;
-    for (double t = 0; t < 0.02; slow *= 2) { double a = now(); for (int k = 0; k < slow; k++) theirs(); t = now() - a; }
+    for (double t = 0; t < 0.02; slow *= 2) {
+        double a = now();
+        for (int k = 0; k < slow; k++) theirs();
+        t = now() - a;
+    }
     for (int batch = 0; batch < 12; batch++) {
         double a = now();
         for (int k = 0; k < turns; k++) ours(form);
@@ -143,7 +152,8 @@ int main(void)
     check(rs != NULL && data_size == 1784, "the profile");
     for (int b = 0; b < BLOCKS; b++) {
         for (size_t k = 0; k < data_size; k++) data[b][k] = draw();
-        check(gii_encode(profile, sizeof profile, data[b], data_size, written[b], BLOCK) == 0, "a block was not written");
+        check(gii_encode(profile, sizeof profile, data[b], data_size, written[b], BLOCK) == 0,
+              "a block was not written");
         for (int i = 0; i < STRIPS; i++) {
             for (int p = 0; p < N; p++) strips[b][i][N - 1 - p] = written[b][i * N + p];
             memcpy(work, strips[b][i], N);
@@ -152,15 +162,15 @@ int main(void)
     }
     printf("| %-52s | %8s | %8s | %6s |\n", "profile 8 3 255 14 16 18 24, MB/s", "here", "libfec", "ratio");
     printf("|---|---|---|---|\n");
-    row("encode", our_encode, 0, fec_encode);
-    reading("decode, clean block", CLEAN, 0);
-    reading("decode, one change in one subword", ONE_IN_ONE, 0);
-    reading("decode, t0 = 14 changes in one subword", T0_IN_ONE, 0);
-    reading("decode, t0 + 1 = 15 changes in one subword", MORE_IN_ONE, 0);
-    reading("decode, t1 = 16 changes in one subword, plain", T1_IN_ONE, 0);
-    reading("decode, t1 = 16 changes in one subword, lookahead", T1_IN_ONE, 1);
-    reading("decode, t1 = 16 changes in one subword, scaled", T1_IN_ONE, 2);
-    reading("decode, one change in every subword", ONE_IN_EACH, 0);
-    reading("decode, t0 = 14 changes in every subword", T0_IN_EACH, 0);
+    row("write", our_encode, 0, fec_encode);
+    reading("read, clean block", CLEAN, 0);
+    reading("read, one change in one strip", ONE_IN_ONE, 0);
+    reading("read, t0 = 14 changes in one strip", T0_IN_ONE, 0);
+    reading("read, t0 + 1 = 15 changes in one strip", MORE_IN_ONE, 0);
+    reading("read, t1 = 16 changes in one strip, plain", T1_IN_ONE, 0);
+    reading("read, t1 = 16 changes in one strip, ahead", T1_IN_ONE, 1);
+    reading("read, t1 = 16 changes in one strip, scaled", T1_IN_ONE, 2);
+    reading("read, one change in every strip", ONE_IN_EACH, 0);
+    reading("read, t0 = 14 changes in every strip", T0_IN_EACH, 0);
     return 0;
 }

@@ -1,4 +1,5 @@
-/* Writes a block, damages it, reads it back and fetches a strip. ../rust/main.rs is the same program; ../expected is what both print. */
+/* Writes a block, damages it, reads it back and fetches a strip. ../rust/main.rs is the same program; ../expected is
+ * what both print. */
 #include <stdio.h>
 #include <stdlib.h>
 #include <string.h>
@@ -50,8 +51,9 @@ int main(void) {
 
     size_t start = gii_fetch_start(profile, sizeof profile, written, size, 1);
     size_t part = gii_fetch_size(profile, sizeof profile, written, size, 1);
+    size_t before = gii_fetch_size(profile, sizeof profile, written, size, 0);
     printf("fetch %d: %zu bytes from %zu, %s\n", gii_fetch(profile, sizeof profile, written, size, 1), part, start,
-           memcmp(written + start, data + gii_fetch_size(profile, sizeof profile, written, size, 0), part) == 0 ? "the data" : "not the data");
+           memcmp(written + start, data + before, part) == 0 ? "the data" : "not the data");
 
     /* Three strips with more changes than any strength: after stage 1 there may be two. */
     memcpy(damaged, written, size);
@@ -61,7 +63,8 @@ int main(void) {
     read_back(damaged, written, size, GII_PLAIN);
 
     printf("refused %d: no strip 8\n", gii_fetch(profile, sizeof profile, written, size, 8));
-    printf("refused %d: a profile of six bytes, size %zu\n", gii_encode(profile, 6, data, data_size, written, size), gii_data_size(profile, 6));
+    printf("refused %d: a profile of six bytes, size %zu\n",
+           gii_encode(profile, 6, data, data_size, written, size), gii_data_size(profile, 6));
     printf("refused %d: nothing at all\n", gii_decode(NULL, 0, NULL, 0, NULL, 0, GII_PLAIN, NULL, 0));
 
     free(data);

@@ -1,11 +1,19 @@
-// Writes a block, damages it, reads it back and fetches a strip. ../c/main.c is the same program; ../expected is what both print.
+// Writes a block, damages it, reads it back and fetches a strip. ../c/main.c is the same program; ../expected is what
+// both print.
 
 /// The functions of include/gii.h, which says what they promise. Each slice is a pointer and a length.
 mod sys {
     extern "C" {
         pub fn gii_data_size(profile: *const u8, profile_size: usize) -> usize;
         pub fn gii_block_size(profile: *const u8, profile_size: usize) -> usize;
-        pub fn gii_encode(profile: *const u8, profile_size: usize, data: *const u8, data_size: usize, out: *mut u8, out_size: usize) -> u8;
+        pub fn gii_encode(
+            profile: *const u8,
+            profile_size: usize,
+            data: *const u8,
+            data_size: usize,
+            out: *mut u8,
+            out_size: usize,
+        ) -> u8;
         pub fn gii_decode(
             profile: *const u8,
             profile_size: usize,
@@ -18,8 +26,20 @@ mod sys {
             report_size: usize,
         ) -> u8;
         pub fn gii_fetch(profile: *const u8, profile_size: usize, block: *const u8, block_size: usize, i: usize) -> u8;
-        pub fn gii_fetch_start(profile: *const u8, profile_size: usize, block: *const u8, block_size: usize, i: usize) -> usize;
-        pub fn gii_fetch_size(profile: *const u8, profile_size: usize, block: *const u8, block_size: usize, i: usize) -> usize;
+        pub fn gii_fetch_start(
+            profile: *const u8,
+            profile_size: usize,
+            block: *const u8,
+            block_size: usize,
+            i: usize,
+        ) -> usize;
+        pub fn gii_fetch_size(
+            profile: *const u8,
+            profile_size: usize,
+            block: *const u8,
+            block_size: usize,
+            i: usize,
+        ) -> usize;
     }
 }
 
@@ -41,7 +61,9 @@ mod gii {
     }
 
     pub fn encode(profile: &[u8], data: &[u8], out: &mut [u8]) -> u8 {
-        unsafe { sys::gii_encode(profile.as_ptr(), profile.len(), data.as_ptr(), data.len(), out.as_mut_ptr(), out.len()) }
+        unsafe {
+            sys::gii_encode(profile.as_ptr(), profile.len(), data.as_ptr(), data.len(), out.as_mut_ptr(), out.len())
+        }
     }
 
     pub fn decode(profile: &[u8], input: &[u8], out: &mut [u8], form: u8, report: &mut [u8]) -> u8 {

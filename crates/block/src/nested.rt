@@ -1,4 +1,4 @@
-// Nested words of a block, document 01's nested sums.
+// Nested words of a block, FORMAT's nested sums (3.4).
 ghost use Prim.Native.Nat.{_≤_, _<_};
 ghost use mathlib.Core.Path.{_≡_};
 ghost use lib.ListN.{length};
@@ -50,7 +50,7 @@ fn nest(p: Profile, block: &[u8], l: usize, word: &mut [u8])
     }
 }
 
-// Nested word l of a block, document 01's nested sum. As l is at most 2, doubling is faster than rows of products.
+// Nested word l of a block (FORMAT 3.4). As l is at most 2, doubling is faster than rows of products.
 pub fn nested_word(p: Profile, block: &[u8], l: usize) -> [u8; POSITIONS]
     requires { ⌜ Fits p (now block) × (l < p .nested) ⌝ }
     ensures { λ r. ⌜ bytes r ≡ cut (p .length) (Nested p (bytes (now (block .entry))) l) ⌝ }

@@ -1,39 +1,31 @@
--- The line of a block: document 01, "The card and its printed list".
+-- The line of a block: FORMAT 9.4.
 --
 --   line i r          the line of block i, r being what reading it came to
 --   block-line p i y  .. which holds y
---   text p i y        what is printed for y: nothing if it is not a block of an accepted profile
 --   told i a r c      the line of block i, from what is answered and reported
 --   Made s t u        t and u are the tables for the section s, if it is a block
 --   Kept s t u        .. if it is a block, and not the first
 use Prim.Native.Nat.{ℕ, _<_}
-use mathlib.Core.Bool.{cond, _&&_}
-use mathlib.Core.List.{List, []}
-use lib.Dec.{eqb}
-use lib.ListN.{length}
+use mathlib.Core.List.{List}
 use Rattle.series.specs.Array.{bytes}
 use Rattle.profile.specs.declared.Profile.{Profile}
 use Rattle.profile.specs.declared.Answer.{Answer}
 use Rattle.profile.specs.declared.Answer.the-variants.{Accepted, Refused}
-use Rattle.profile.specs.Definition.{block-size, number-of}
+use Rattle.profile.specs.Definition.{number-of}
 use Rattle.block.specs.CodewordDefinition.{Tables}
 use Rattle.staged_decoding.specs.Definition.{decode}
-use Rattle.decoder.specs.PreparedDefinition.{Result, read, refused, concluded}
+use Rattle.decoder.specs.Definition.{Result, read, refused, concluded}
 use Rattle.listing.specs.Definition.{ok-line, refused-line}
 use Rattle.card.specs.declared.section.Section.{Section}
 use Rattle.card.specs.declared.section.Section.the-variants.{Size, Bytes, Count, Block, End, Over}
-use Rattle.card.specs.SectionDefinition.{accepts}
 
--- "for each whole block its number and `ok`, last stage, changed bytes, or `refused` and the refusal number"
+-- its number and `ok`, the last stage and the changed symbols; or `refused` and the number of the refusal
 abbrev pub line : ℕ → Result → List ℕ
 line i (read p s x) = ok-line i (x .last) (x .changed)
 line i (refused q) = refused-line i (number-of q)
 
 unfoldable pub block-line : Profile → ℕ → List ℕ → List ℕ
 block-line p i y = line i (concluded p (decode p (bytes y)))
-
-abbrev pub text : Profile → ℕ → List ℕ → List ℕ
-text p i y = cond (accepts p && eqb (length y) (block-size p)) (block-line p i y) []
 
 abbrev pub told : ℕ → Answer → ℕ → ℕ → List ℕ
 told i Accepted r c = ok-line i r c

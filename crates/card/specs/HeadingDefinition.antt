@@ -1,4 +1,4 @@
--- What the sections before the blocks come to: document 01, "The card and its printed list".
+-- What the sections before the blocks come to: FORMAT 9.
 --
 --   size-step n       the byte n tells how many bytes the profile has
 --   profile-step a    a is the answer to the bytes of the profile
@@ -15,15 +15,15 @@ use Rattle.listing.specs.Definition.{blocks-line}
 use Rattle.card.specs.declared.section.Section.the-variants.{Bytes, Count}
 use Rattle.card.specs.SectionDefinition.{from, Step, silent, refusal}
 
--- "A count byte other than 7 is 1"
+-- FORMAT 9.3: a first byte other than 7 gives 1
 abbrev pub size-step : ℕ → Step
 size-step n = cond (eqb n 7) (silent Bytes) (refusal (number-of ProfileSize))
 
--- "A refused profile or card prints `card refused` and the number."
+-- FORMAT 9.4: a card with a refused profile is refused by its number
 abbrev pub profile-step : Parsed → Step
 profile-step (Accepted p) = silent (Count p)
 profile-step (Refused q) = refusal (number-of q)
 
--- "The program prints `blocks N`"
+-- FORMAT 9.4: the number of blocks is printed
 abbrev pub count-step : Profile → ℕ → Step
 count-step p k = record { text = blocks-line k; next = from p 0 k }

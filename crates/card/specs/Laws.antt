@@ -1,7 +1,6 @@
 -- The tables that are kept from section to section.
 --
--- Proved: the tables for a section serve what comes next (made-next); none are asked for where a section was cut (cut-kept), nor more where no card leads to it
--- (known-kept).
+-- Proved: the tables for a section serve what comes next (made-next); none are asked for where a section was cut (cut-kept).
 use Prim.Native.Nat.{ℕ, _+_}
 use mathlib.Core.Path.{_≡_, subst⁻¹}
 use mathlib.Core.Bool.{Bool, true, false, cond}
@@ -12,10 +11,10 @@ use lib.ListN.{getD}
 use Rattle.profile.specs.declared.Profile.{Profile}
 use Rattle.profile.specs.declared.Parsed.{Parsed}
 use Rattle.profile.specs.declared.Parsed.the-variants.{Accepted, Refused}
-use Rattle.profile.specs.Definition.{profile-of}
+use Rattle.profile.specs.Questions.{profile-of}
 use Rattle.card.specs.declared.section.Section.{Section}
 use Rattle.card.specs.declared.section.Section.the-variants.{Size, Bytes, Count, Block, End, Over}
-use Rattle.card.specs.SectionDefinition.{good, known, ends, silent, refusal}
+use Rattle.card.specs.SectionDefinition.{ends, silent, refusal}
 use Rattle.card.specs.HeadingDefinition.{profile-step}
 use Rattle.card.specs.PrintedDefinition.{count-of}
 use Rattle.card.specs.PrintedStep.{whole, cut}
@@ -57,11 +56,4 @@ module _ (t u : List ℕ) where
     where
       go : (b : Bool) → Kept (cond b (silent Over) (refusal 11) .next) t u
       go true = tt
-      go false = tt
-
-  pub known-kept : (s : Section) → Kept s t u → Kept (known s) t u
-  known-kept s h = go (good s)
-    where
-      go : (b : Bool) → Kept (cond b s Over) t u
-      go true = h
       go false = tt

@@ -1,4 +1,4 @@
--- What is printed for a card: document 01, "The card and its printed list". A card is the list of its bytes.
+-- What is printed for a card: FORMAT 9. A card is the list of its bytes.
 --
 --   section n c f    a section of n bytes at the front of c: f of the section and of what follows it, or 11
 --   end c            what is printed where the card has to end
@@ -15,24 +15,25 @@ use Rattle.profile.specs.declared.Profile.{Profile}
 use Rattle.profile.specs.declared.Refusal.the-variants.{ProfileSize}
 use Rattle.profile.specs.declared.Parsed.{Parsed}
 use Rattle.profile.specs.declared.Parsed.the-variants.{Accepted, Refused}
-use Rattle.profile.specs.Definition.{profile-of, number-of, block-size}
+use Rattle.profile.specs.Definition.{number-of, block-size}
+use Rattle.profile.specs.Questions.{profile-of}
 use Rattle.listing.specs.Definition.{blocks-line, card-line}
 use Rattle.card.specs.BlockLineDefinition.{block-line}
 
--- "is each section whole? No: 11."
+-- FORMAT 4.12: a section that is not whole gives 11
 abbrev pub section : ℕ → List ℕ → (List ℕ → List ℕ → List ℕ) → List ℕ
 section n c f = cond (ltb (length c) n) (card-line 11) (f (take n c) (drop n c))
 
--- "Does nothing follow the last? No: 12."
+-- FORMAT 4.13: a byte after the last section gives 12
 abbrev pub end : List ℕ → List ℕ
 end c = cond (ltb (length c) 1) [] (card-line 12)
 
--- "A cut inside the blocks prints `card refused 11` after the lines of the whole ones, a byte beyond them `card refused 12`."
+-- FORMAT 9.5: the lines of the blocks that are whole come first
 abbrev pub blocks : Profile → ℕ → ℕ → List ℕ → List ℕ
 blocks p zero i c = end c
 blocks p (suc k) i c = section (block-size p) c (λ y r. block-line p i y ++ blocks p k (suc i) r)
 
--- "a two-byte count (high byte first) and the blocks"
+-- FORMAT 9.1: the number of blocks has two bytes, the high one first
 abbrev pub count-of : List ℕ → ℕ
 count-of b = 256 * getD b 0 0 + getD b 1 0
 
@@ -42,15 +43,15 @@ numbered p b r = blocks-line (count-of b) ++ blocks p (count-of b) 0 r
 abbrev pub counted : Profile → List ℕ → List ℕ
 counted p c = section 2 c (numbered p)
 
--- "A refused profile or card prints `card refused` and the number. .. a bad profile is named before a missing block count."
-abbrev pub judged : Parsed → List ℕ → List ℕ
-judged (Accepted p) r = counted p r
-judged (Refused q) r = card-line (number-of q)
+-- FORMAT 9.3: the profile is judged before the number of blocks is there
+abbrev pub profile-judged : Parsed → List ℕ → List ℕ
+profile-judged (Accepted p) r = counted p r
+profile-judged (Refused q) r = card-line (number-of q)
 
 abbrev pub profiled : List ℕ → List ℕ
-profiled c = section 7 c (λ b. judged (profile-of b))
+profiled c = section 7 c (λ b. profile-judged (profile-of b))
 
--- "A count byte other than 7 is 1; a missing byte is 11."
+-- FORMAT 9.3: a first byte other than 7 gives 1, and no first byte 11
 abbrev pub sized : List ℕ → List ℕ → List ℕ
 sized k r = cond (eqb (getD k 0 0) 7) (profiled r) (card-line (number-of ProfileSize))
 

@@ -14,7 +14,8 @@ use Rattle.profile.specs.declared.Profile.{Profile}
 use Rattle.profile.specs.declared.Refusal.the-variants.{ProfileSize}
 use Rattle.profile.specs.declared.Parsed.{Parsed}
 use Rattle.profile.specs.declared.Parsed.the-variants.{Accepted, Refused}
-use Rattle.profile.specs.Definition.{profile-of, number-of}
+use Rattle.profile.specs.Definition.{number-of}
+use Rattle.profile.specs.Questions.{profile-of}
 use Rattle.card.specs.declared.section.Section.{Section}
 use Rattle.card.specs.declared.section.Section.the-variants.{Size, Bytes, Count, Block, End, Over}
 use Rattle.card.specs.SectionDefinition.{good, known, size, ends, over, left, from, Step, silent, refusal}

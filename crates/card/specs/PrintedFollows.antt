@@ -2,7 +2,7 @@
 --
 --   Follows x a d    the step x leads to a section that a card can lead to; and a, what was to be printed, is the text of x, and what is printed for the rest d
 --
--- Proved: every step of a section that a card can lead to does so (follows).
+-- Proved: every step of a section that a card can lead to does so (follows), whether it is cut or whole (cut-good, whole-good).
 use Prim.Native.Nat.{ℕ, zero, suc, _+_, _-_, _≤_, _<_}
 use mathlib.Core.Path.{_≡_, refl, sym, ap, ap₂, _∙_, subst⁻¹}
 use mathlib.Core.Logic.{by-cases}
@@ -11,7 +11,7 @@ use mathlib.Core.List.{List, [], _∷_, _++_, append-nil}
 use native.Mathlib.Nat.{sub-zero}
 use native.Mathlib.Decide.{decLt}
 use native.Mathlib.Omega.{arith}
-use borrow.Author.Tests.{ltb-true, ltb-false, le-ltb, eq-eqb}
+use borrow.Author.Tests.{ltb-true, ltb-false, le-ltb}
 use lib.Dec.{eqb, ltb}
 use lib.ListN.{length, getD, take, drop}
 use lib.Seq.{length-take-le, take-all}
@@ -19,15 +19,16 @@ use Rattle.profile.specs.declared.Profile.{Profile}
 use Rattle.profile.specs.declared.Refusal.the-variants.{ProfileSize}
 use Rattle.profile.specs.declared.Parsed.{Parsed}
 use Rattle.profile.specs.declared.Parsed.the-variants.{Accepted, Refused}
-use Rattle.profile.specs.Definition.{profile-of, number-of, block-size}
+use Rattle.profile.specs.Definition.{number-of, block-size}
+use Rattle.profile.specs.Questions.{profile-of}
 use Rattle.listing.specs.Definition.{blocks-line, card-line}
 use Rattle.card.specs.declared.section.Section.{Section}
 use Rattle.card.specs.declared.section.Section.the-variants.{Size, Bytes, Count, Block, End, Over}
-use Rattle.card.specs.SectionDefinition.{accepts, good, size, from, Step, silent, refusal}
+use Rattle.card.specs.SectionDefinition.{accepts, good, size, ends, from, Step, silent, refusal}
 use Rattle.card.specs.SectionLaws.{profile-accepts}
 use Rattle.card.specs.HeadingDefinition.{size-step, profile-step, count-step}
-use Rattle.card.specs.BlockLineDefinition.{text, block-line}
-use Rattle.card.specs.PrintedDefinition.{blocks, count-of, judged, profiled}
+use Rattle.card.specs.BlockLineDefinition.{block-line}
+use Rattle.card.specs.PrintedDefinition.{blocks, count-of, profile-judged, profiled}
 use Rattle.card.specs.PrintedStep.{whole, cut, step, after}
 
 pub record Follows (x : Step) (a d : List ℕ) : Type 0 where
@@ -46,10 +47,10 @@ pick false h g = g refl
 size-follows : (n : ℕ) (d : List ℕ) → Follows (size-step n) (cond (eqb n 7) (profiled d) (card-line (number-of ProfileSize))) d
 size-follows n d = pick (eqb n 7) (λ _. record { good = refl; says = refl }) (λ _. refused 1 d)
 
-profile-follows : (y d : List ℕ) → Follows (profile-step (profile-of y)) (judged (profile-of y) d) d
+profile-follows : (y d : List ℕ) → Follows (profile-step (profile-of y)) (profile-judged (profile-of y) d) d
 profile-follows y d = go (profile-of y) refl
   where
-    go : (a : Parsed) → profile-of y ≡ a → Follows (profile-step a) (judged a d) d
+    go : (a : Parsed) → profile-of y ≡ a → Follows (profile-step a) (profile-judged a d) d
     go (Accepted p) h = record { good = profile-accepts y p h; says = refl }
     go (Refused q) h = refused (number-of q) d
 
@@ -77,17 +78,14 @@ count-follows p k d a = record {
   says = ap (λ (u : List ℕ). blocks-line k ++ u) (ap (λ (r : ℕ). blocks p r 0 d) (sym (sub-zero k)) ∙ from-after p 0 k d);
 }
 
-block-follows : (p : Profile) (i k : ℕ) (y d : List ℕ) → accepts p ≡ true → length y ≡ block-size p
+block-follows : (p : Profile) (i k : ℕ) (y d : List ℕ) → accepts p ≡ true
     → Follows (whole (Block p i k) y) (block-line p i y ++ blocks p (k - suc i) (suc i) d) d
-block-follows p i k y d a h =
+block-follows p i k y d a =
     let next : suc i ≡ i + 1 = omega arith in
     record {
       good = from-good p (i + 1) k a;
-      says = ap₂ _++_ is (ap (λ (j : ℕ). blocks p (k - j) j d) next ∙ from-after p (i + 1) k d);
+      says = ap (_++_ (block-line p i y)) (ap (λ (j : ℕ). blocks p (k - j) j d) next ∙ from-after p (i + 1) k d);
     }
-  where
-    is : block-line p i y ≡ text p i y
-    is = rw (a, eq-eqb (length y) (block-size p) h)
 
 -- ---- the bytes of a section, at the front of a card
 
@@ -118,8 +116,7 @@ front (Block p i k) c g =
     let n = block-size p in
     subst⁻¹ (λ (r : ℕ). Follows (cond (ltb (length c) n) (refusal 11) (whole (Block p i k) (take n c))) (blocks p r i c) (drop n c))
     (one-less i k (ltb-true i k l))
-    (pick (ltb (length c) n) (λ _. refused 11 (drop n c)) (λ h.
-    block-follows p i k (take n c) (drop n c) a (length-take-le n c (ltb-false (length c) n h))))
+    (pick (ltb (length c) n) (λ _. refused 11 (drop n c)) (λ _. block-follows p i k (take n c) (drop n c) a))
 front End c g = pick (ltb (length c) 1) (λ _. record { good = refl; says = refl }) (λ _. refused 12 (drop 1 c))
 front Over c g = go (ltb (length c) 0)
   where
@@ -129,3 +126,20 @@ front Over c g = go (ltb (length c) 0)
 
 pub follows : (s : Section) (y c : List ℕ) → good s ≡ true → y ≡ take (size s) c → Follows (step s y) (after s c) (drop (size s) c)
 follows s y c g e = subst⁻¹ (λ x. Follows x (after s c) (drop (size s) c)) (ap (step s) e ∙ step-front s c) (front s c g)
+
+-- ---- what comes next is good
+
+pub cut-good : (s : Section) → good (cut s .next) ≡ true
+cut-good s = go (ends s)
+  where
+    go : (b : Bool) → good (cond b (silent Over) (refusal 11) .next) ≡ true
+    go true = refl
+    go false = refl
+
+pub whole-good : (s : Section) (y : List ℕ) → good s ≡ true → good (whole s y .next) ≡ true
+whole-good Size y g = size-follows (getD y 0 0) [] .good
+whole-good Bytes y g = profile-follows y [] .good
+whole-good (Count p) y g = count-follows p (count-of y) [] g .good
+whole-good (Block p i k) y g = block-follows p i k y [] (and-eq-true-iff (ltb i k) _ .0 g .1) .good
+whole-good End y g = refl
+whole-good Over y g = refl

@@ -3,31 +3,27 @@
 --   Run s c o    judging that begins where the section s comes next, with the rest c of a card, print the text o: each is given as many bytes as are wanted, or what
 --                is left of the card
 --
--- Proved: judging that takes the step of its section prints what it has to (judges); runs print what is to be printed (run-says), so from the start of a card they
--- print its list (list-printed). How short the reads were that brought the bytes of a section does not enter.
+-- Proved: judging that takes the step of its section prints what it has to (judges), and leads to a section that a card leads
+-- to (step-good); runs print what is to be printed (run-says), so from the start of a card they print its list (list-printed).
+-- How short the reads were that brought the bytes of a section does not enter.
 use Prim.Native.Nat.{ℕ, _≤_, _<_}
-use mathlib.Core.Path.{_≡_, refl, sym, ap, ap₂, _∙_}
+use mathlib.Core.Path.{_≡_, refl, sym, ap, ap₂, _∙_, subst, subst⁻¹}
 use mathlib.Core.Bool.{Bool, true, false, cond}
 use mathlib.Core.List.{List, [], _++_}
 use native.Mathlib.Omega.{arith}
 use borrow.Author.Tests.{lt-ltb, le-ltb}
+use lib.Dec.{ltb}
 use lib.ListN.{length, getD, take, drop, length-append}
 use lib.Seq.{take-at}
 use Rattle.card.specs.declared.section.Section.{Section}
 use Rattle.card.specs.declared.section.Section.the-variants.{Size, Over}
 use Rattle.card.specs.declared.section.Judged.{Judged}
 use Rattle.card.specs.SectionDefinition.{good, known, size, wanted, Takes}
+use Rattle.card.specs.SectionLaws.{known-good, good-known}
 use Rattle.card.specs.PrintedDefinition.{printed}
 use Rattle.card.specs.PrintedStep.{whole, cut, step, after, rest, Judges}
-use Rattle.card.specs.PrintedFollows.{follows}
+use Rattle.card.specs.PrintedFollows.{follows, cut-good, whole-good}
 use Rattle.card.specs.PrintedFalls.{step-falls}
-
-pub known-good : (s : Section) → good (known s) ≡ true
-known-good s = go (good s) refl
-  where
-    go : (b : Bool) → good s ≡ b → good (cond b s Over) ≡ true
-    go true h = h
-    go false h = refl
 
 -- the two ways of a step
 pub step-cut : (s : Section) (y : List ℕ) → length y < size s → cut s ≡ step s y
@@ -35,9 +31,6 @@ step-cut s y h = sym (ap (λ b. cond b (cut s) (whole s (take (size s) y))) (lt-
 
 pub step-whole : (s : Section) (y : List ℕ) → size s ≤ length y → whole s (take (size s) y) ≡ step s y
 step-whole s y h = sym (ap (λ b. cond b (cut s) (whole s (take (size s) y))) (le-ltb (length y) (size s) h))
-
-good-known : (s : Section) → good s ≡ true → known s ≡ s
-good-known s h = ap (λ b. cond b s Over) h
 
 module _ (s : Section) (y l m : List ℕ) (t : Judged) (h : Takes (step (known s) y) l t m) where
   taken : take (t .size) m ≡ step (known s) y .text
@@ -56,6 +49,23 @@ module _ (s : Section) (y l m : List ℕ) (t : Judged) (h : Takes (step (known s
         let next : known (t .next) ≡ step (known s) y .next = ap known (h .next) ∙ good-known (step (known s) y .next) (x .good) in
         x .says ∙ ap₂ _++_ (sym taken) (ap (λ n. after n (drop (wanted s) c)) (sym next));
   }
+
+-- of a section that a card leads to
+pub judges-good : (s : Section) (y l m : List ℕ) (t : Judged) → good s ≡ true → Takes (step s y) l t m → ((j : ℕ) → getD y j 0 ≤ 255)
+    → Judges s y l t m
+judges-good s y l m t g h = judges s y l m t (subst⁻¹ (λ r. Takes (step r y) l t m) (good-known s g) h)
+
+pub step-good : (s : Section) (y l m : List ℕ) (t : Judged) → good s ≡ true → Takes (step s y) l t m → good (t .next) ≡ true
+step-good s y l m t g h = ap good (h .next) ∙ go (ltb (length y) (size s))
+  where
+    go : (b : Bool) → good (cond b (cut s) (whole s (take (size s) y)) .next) ≡ true
+    go true = cut-good s
+    go false = whole-good s (take (size s) y) g
+
+-- what holds of the section that is known in place of another holds of that
+pub judges-known : (s : Section) (y l m : List ℕ) (t : Judged) → Judges (known s) y l t m → ((j : ℕ) → getD y j 0 ≤ 255)
+    → Judges s y l t m
+judges-known s y l m t h = judges s y l m t (subst (λ r. Takes (step r y) l t m) (good-known (known s) (known-good s)) (h .takes))
 
 pub data Run : Section → List ℕ → List ℕ → Type 0 where
   over : (c : List ℕ) → Run Over c []

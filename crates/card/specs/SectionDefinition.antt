@@ -20,7 +20,10 @@ use lib.Dec.{eqb, ltb, leb}
 use Rattle.profile.specs.declared.Profile.{Profile}
 use Rattle.profile.specs.declared.Parsed.{Parsed}
 use Rattle.profile.specs.declared.Parsed.the-variants.{Accepted, Refused}
-use Rattle.profile.specs.Definition.{judged, block-size}
+use Rattle.profile.specs.declared.questions.Caller.the-variants.{Card}
+use Rattle.profile.specs.declared.questions.Lent.{Lent}
+use Rattle.profile.specs.Definition.{block-size}
+use Rattle.profile.specs.Questions.{asked}
 use Rattle.listing.specs.Definition.{card-line, Printed}
 use Rattle.card.specs.declared.section.Section.{Section}
 use Rattle.card.specs.declared.section.Section.the-variants.{Size, Bytes, Count, Block, End, Over}
@@ -30,8 +33,12 @@ abbrev pub passes : Parsed → Bool
 passes (Accepted p) = true
 passes (Refused q) = false
 
+-- a profile of seven bytes, and nothing besides
+abbrev pub alone : Lent
+alone = record { profile = 7; input = 0; output = 0; subword = 0 }
+
 unfoldable pub accepts : Profile → Bool
-accepts p = passes (judged p)
+accepts p = passes (asked Card alone p)
 
 abbrev pub good : Section → Bool
 good Size = true

@@ -1,16 +1,14 @@
-// The line of a block: the block is read, and what the reading came to is printed. What the promises speak of stands in specs/BlockLineDefinition.antt.
+// The line of a block: the block is read, and what the reading came to is printed.
+// What the promises speak of stands in specs/BlockLineDefinition.antt.
 ghost use Prim.Native.Nat.{_<_};
 ghost use mathlib.Core.Path.{_≡_};
-ghost use mathlib.Core.Bool.{true, _&&_};
-ghost use lib.Dec.{eqb};
+ghost use mathlib.Core.Bool.{true};
 ghost use lib.ListN.{length};
-ghost use Rattle.profile.specs.Definition.{block-size};
 ghost use Rattle.profile.specs.Valid.{Valid};
 ghost use Rattle.block.specs.Parts.{Fits};
 ghost use Rattle.block.specs.CodewordDefinition.{Tables};
 ghost use Rattle.listing.specs.Definition.{Printed};
-ghost use Rattle.card.specs.SectionDefinition.{accepts};
-ghost use Rattle.card.specs.BlockLineDefinition.{told as Told, block-line as BlockLine, text};
+ghost use Rattle.card.specs.BlockLineDefinition.{told as Told, block-line as BlockLine};
 use crate::section::SECTION;
 use listing::LINE;
 use profile::Answer;
@@ -69,18 +67,8 @@ fn read_block(
     told(i, a, report.last, report.changed, line)
 }
 
-// Whether n bytes are a block of an accepted profile.
-fn is_block(p: Profile, n: usize) -> bool
-    ensures { λ b. ⌜ b ≡ accepts p && eqb n (block-size p) ⌝ }
-{
-    if crate::section::accepted(p) {
-        return n == p.block_size();
-    }
-    false
-}
-
-// Prints the line of block i: none for bytes that are not a block of an accepted profile. The tables serve the blocks of a card one after the other: they are made
-// for the first block, and for any block if they are not kept.
+// Prints the line of block i. The tables serve the blocks of a card one after the other: they are made for the first block, and
+// for any block if they are not kept.
 pub fn print(
     p: Profile,
     i: u16,
@@ -90,15 +78,12 @@ pub fn print(
     block: &[u8],
     line: &mut [u8; LINE],
 ) -> usize
-    requires { ⌜ (kept ≡ true → 0 < i → Tables p (now t) (now u)) ⌝ }
-    ensures { λ n. ⌜ Printed (text p i (now (block .entry))) (now (line .entry)) n (now (line .exit)) ⌝ }
-    ensures made { λ n. ⌜ (accepts p && eqb (length (now (block .entry))) (block-size p) ≡ true → Tables p (now (t .exit)) (now (u .exit))) ⌝ }
+    requires { ⌜ Fits p (now block) × (kept ≡ true → 0 < i → Tables p (now t) (now u)) ⌝ }
+    ensures { λ n. ⌜ Printed (BlockLine p i (now (block .entry))) (now (line .entry)) n (now (line .exit)) ⌝ }
+    ensures made { λ n. ⌜ Tables p (now (t .exit)) (now (u .exit)) ⌝ }
 {
     let n = block.len();
-    if is_block(p, n) {
-        prepare(p, i, kept, t, u);
-        let mut out = blank();
-        return read_block(p, i, t, u, block, &mut out[..n], line);
-    }
-    0
+    prepare(p, i, kept, t, u);
+    let mut out = blank();
+    read_block(p, i, t, u, block, &mut out[..n], line)
 }

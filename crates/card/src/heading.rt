@@ -1,7 +1,7 @@
 // The sections before the blocks: how many bytes the profile has, the profile, how many blocks there are; and the line of a card that is refused.
 // What the promises speak of stands in specs/HeadingDefinition.antt.
 ghost use Prim.Native.Nat.{_+_, _*_};
-ghost use Rattle.profile.specs.Definition.{profile-of};
+ghost use Rattle.profile.specs.Questions.{profile-of};
 ghost use Rattle.card.specs.SectionDefinition.{refusal, Takes};
 ghost use Rattle.card.specs.HeadingDefinition.{size-step, profile-step, count-step};
 use crate::section::Judged;
@@ -38,7 +38,7 @@ pub fn judge_size(n: u8, line: &mut [u8; LINE]) -> Judged
 pub fn judge_bytes(bytes: &[u8], line: &mut [u8; LINE]) -> Judged
     ensures { λ t. ⌜ Takes (profile-step (profile-of (now (bytes .entry)))) (now (line .entry)) t (now (line .exit)) ⌝ }
 {
-    match profile::parse::parse(bytes) {
+    match profile::questions::parse(bytes) {
         Parsed::Accepted(p) => Judged {
             next: Section::Count(p),
             size: 0,

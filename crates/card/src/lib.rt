@@ -1,16 +1,15 @@
-// A card, section by section: each is judged as it arrives, and a line is printed for it. What one section comes to, and that all of them together print the list of the card,
-// stands in specs/PrintedStep.antt and specs/PrintedWhole.antt.
+// A card, section by section: each is judged as it arrives, and a line is printed for it. What one section comes to, and that all
+// of them together print the list of the card, stands in specs/PrintedStep.antt and specs/PrintedWhole.antt.
 mod block_line;
 mod heading;
 pub mod section;
 
 ghost use Prim.Native.Nat.{_<_};
 ghost use mathlib.Core.Path.{_≡_};
-ghost use mathlib.Core.Bool.{true, _&&_};
-ghost use lib.Dec.{eqb};
+ghost use mathlib.Core.Bool.{true};
 ghost use lib.ListN.{length};
-ghost use Rattle.profile.specs.Definition.{block-size};
-ghost use Rattle.card.specs.SectionDefinition.{accepts, good, size as SizeOf, Takes};
+ghost use Rattle.block.specs.Parts.{Fits};
+ghost use Rattle.card.specs.SectionDefinition.{good, size as SizeOf, Takes};
 ghost use Rattle.card.specs.PrintedStep.{whole as Whole, cut as Cut, Judges};
 ghost use Rattle.card.specs.Definition.{Made, Kept};
 use crate::section::Judged;
@@ -21,7 +20,7 @@ use profile::Profile;
 // The entries of a table.
 pub const TABLE: usize = crate::block_line::TABLE;
 
-// A section is not whole.
+// The number of a card of which a section is not whole.
 const CUT: u8 = 11;
 
 // A byte follows the last section.
@@ -42,7 +41,7 @@ fn judge_block(
     block: &[u8],
     line: &mut [u8; LINE],
 ) -> Judged
-    requires { ⌜ (i < k) × (accepts p && eqb (length (now block)) (block-size p) ≡ true) × (kept ≡ true → Kept (Section.Block p i k) (now t) (now u)) ⌝ }
+    requires { ⌜ (i < k) × Fits p (now block) × (kept ≡ true → Kept (Section.Block p i k) (now t) (now u)) ⌝ }
     ensures { λ r. ⌜ Takes (Whole (Section.Block p i k) (now (block .entry))) (now (line .entry)) r (now (line .exit)) ⌝ }
     ensures made { λ r. ⌜ Made (Section.Block p i k) (now (t .exit)) (now (u .exit)) ⌝ }
 {
@@ -92,8 +91,8 @@ fn cut(s: Section, line: &mut [u8; LINE]) -> Judged
     crate::heading::refuse(CUT, line)
 }
 
-// Judges as `judge` does, with arrays lent for the tables that blocks are divided by. Whoever lends the same arrays for section after section says `kept`, and the tables are
-// made once for a card.
+// Judges a section that a card leads to as `judge` does, with arrays lent for the tables that blocks are divided by. Whoever
+// lends the same arrays for section after section says `kept`: the tables are made once for a card, and its profile is judged once.
 pub fn judge_kept(
     s: Section,
     kept: bool,
@@ -102,24 +101,25 @@ pub fn judge_kept(
     bytes: &[u8],
     line: &mut [u8; LINE],
 ) -> Judged
-    requires { ⌜ (kept ≡ true → Kept s (now t) (now u)) ⌝ }
+    requires { ⌜ (good s ≡ true) × (kept ≡ true → Kept s (now t) (now u)) ⌝ }
     ensures { λ r. ⌜ Judges s (now (bytes .entry)) (now (line .entry)) r (now (line .exit)) ⌝ }
     ensures kept { λ r. ⌜ Kept (r .next) (now (t .exit)) (now (u .exit)) ⌝ }
+    ensures next { λ r. ⌜ good (r .next) ≡ true ⌝ }
 {
-    let n = crate::section::wanted(s);
-    let r = crate::section::known(s);
+    let n = crate::section::size(s);
     if bytes.len() < n {
-        return cut(r, line);
+        return cut(s, line);
     }
-    whole(r, kept, t, u, &bytes[..n], line)
+    whole(s, kept, t, u, &bytes[..n], line)
 }
 
-// The section that comes next is judged: as many bytes as are wanted, or fewer, if those are the last of the card. Bytes beyond those that are wanted are of no
-// interest, and a section that no card leads to is taken for the last, for which nothing is printed.
+// The section that comes next is judged: as many bytes as are wanted, or fewer, if those are the last of the card. Bytes beyond
+// those that are wanted are of no interest, and a section that no card leads to is taken for the last, for which nothing is
+// printed.
 pub fn judge(s: Section, bytes: &[u8], line: &mut [u8; LINE]) -> Judged
     ensures { λ t. ⌜ Judges s (now (bytes .entry)) (now (line .entry)) t (now (line .exit)) ⌝ }
 {
     let mut t = blank();
     let mut u = blank();
-    judge_kept(s, false, &mut t, &mut u, bytes, line)
+    judge_kept(crate::section::known(s), false, &mut t, &mut u, bytes, line)
 }

@@ -1,13 +1,15 @@
-// The sections of a card: which of them a card leads to, how many bytes each has, and what judging one hands back. What the promises speak of stands in
-// specs/SectionDefinition.antt.
+// The sections of a card: which of them a card leads to, how many bytes each has, and what judging one hands back.
+// What the promises speak of stands in specs/SectionDefinition.antt.
 ghost use Prim.Native.Nat.{_≤_};
 ghost use mathlib.Core.Path.{_≡_};
 ghost use mathlib.Core.Bool.{true, _&&_};
 ghost use lib.Dec.{ltb};
-ghost use Rattle.profile.specs.Definition.{block-size};
-ghost use Rattle.card.specs.SectionDefinition.{accepts, good as Good, known as Known, size as SizeOf, wanted as Wanted, kinds as Kinds, ends, over, from};
+ghost use Rattle.card.specs.SectionDefinition.{accepts, good as Good, known as Known, size as SizeOf, wanted as Wanted};
+ghost use Rattle.card.specs.SectionDefinition.{kinds as Kinds, ends, over, from};
 use profile::Parsed;
 use profile::Profile;
+use profile::questions::Caller;
+use profile::questions::Lent;
 
 // The most bytes of a section.
 pub const SECTION: usize = 2040;
@@ -35,11 +37,16 @@ pub struct Judged {
 }
 
 // Whether the profile passes its questions.
-pub fn accepted(p: Profile) -> bool
+fn accepted(p: Profile) -> bool
     ensures { λ b. ⌜ b ≡ accepts p ⌝ }
-    ensures room { λ b. ⌜ (b ≡ true → block-size p ≤ 2040) ⌝ }
 {
-    match profile::parse::judge(p) {
+    let l = Lent {
+        profile: 7,
+        input: 0,
+        output: 0,
+        subword: 0,
+    };
+    match profile::questions::judge(Caller::Card, l, p) {
         Parsed::Accepted(_) => true,
         Parsed::Refused(_) => false,
     }
@@ -48,7 +55,6 @@ pub fn accepted(p: Profile) -> bool
 // Whether block i out of k can come.
 fn numbered(p: Profile, i: u16, k: u16) -> bool
     ensures { λ b. ⌜ b ≡ ltb i k && accepts p ⌝ }
-    ensures room { λ b. ⌜ (b ≡ true → block-size p ≤ 2040) ⌝ }
 {
     if i < k {
         return accepted(p);
@@ -59,7 +65,6 @@ fn numbered(p: Profile, i: u16, k: u16) -> bool
 // Whether a card can lead to the section.
 fn good(s: Section) -> bool
     ensures { λ b. ⌜ b ≡ Good s ⌝ }
-    ensures room { λ b. ⌜ (b ≡ true → SizeOf s ≤ 2040) ⌝ }
 {
     match s {
         Section::Size => true,
@@ -74,7 +79,6 @@ fn good(s: Section) -> bool
 // A section that no card leads to is taken for the last: all is printed.
 pub fn known(s: Section) -> Section
     ensures { λ r. ⌜ r ≡ Known s ⌝ }
-    ensures room { λ r. ⌜ SizeOf r ≤ 2040 ⌝ }
 {
     if good(s) {
         return s;
@@ -82,8 +86,10 @@ pub fn known(s: Section) -> Section
     Section::Over
 }
 
-fn size(s: Section) -> usize
+// How many bytes the section has.
+pub fn size(s: Section) -> usize
     ensures { λ n. ⌜ n ≡ SizeOf s ⌝ }
+    ensures most { λ n. ⌜ (Good s ≡ true → n ≤ 2040) ⌝ }
 {
     match s {
         Section::Size => 1,
@@ -98,7 +104,7 @@ fn size(s: Section) -> usize
 // How many bytes come next: 0 where no card leads to the section.
 pub fn wanted(s: Section) -> usize
     ensures { λ n. ⌜ n ≡ Wanted s ⌝ }
-    ensures room { λ n. ⌜ n ≤ 2040 ⌝ }
+    ensures most { λ n. ⌜ n ≤ 2040 ⌝ }
 {
     size(known(s))
 }

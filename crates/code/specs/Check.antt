@@ -22,7 +22,7 @@ use Rattle.code.specs.Word.{syndrome, InCode}
 use Rattle.code.specs.Definition.{subword, nested, Codeword}
 use Rattle.code.specs.Triangle.{checked-triangle, triangle-codeword}
 
--- "every strip is in the code of strength t0"
+-- the first half of FORMAT 3.5: each strip belongs to the code of strength t0
 abbrev pub Subwords : Profile → Series → Type 0
 Subwords p s = (i : ℕ) → i < p .subwords → InCode (p .length) (p .t0) (subword (p .length) s i)
 
@@ -32,7 +32,7 @@ Subwords p s = (i : ℕ) → i < p .subwords → InCode (p .length) (p .t0) (sub
 abbrev pub rows : ℕ → (ℕ → Series) → ℕ → Series
 rows r f i = cond (ltb i r) (f i) O
 
--- "a table of eight strips by 48 syndromes, unused entries zero"
+-- FORMAT 6.1: the table of syndromes, with 0 for what is not known
 abbrev pub received : Profile → Series → ℕ → ℕ → Series
 received p s k = rows (p .subwords) (λ i. cut k (syndrome (p .length) (subword (p .length) s i)))
 

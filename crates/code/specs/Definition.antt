@@ -1,7 +1,7 @@
--- Codewords of a profile: document 01, "The field and the block". A block is a series of which the first m × n symbols are read.
+-- Codewords of a profile: FORMAT 3. A block is a series of which the first m × n symbols are read.
 --
---   subword n s i    subword i of the block s, document 01's strip
---   nested p s l     nested word l, document 01's nested sum
+--   subword n s i    subword i of the block s, FORMAT's strip
+--   nested p s l     nested word l, FORMAT's nested sum
 --   Codeword p s     the block s is a codeword
 --   Carries p d s    the data d stands in the data positions of the block s
 --   Encodes p d s    both
@@ -14,20 +14,20 @@ use Rattle.profile.specs.declared.Profile.{Profile}
 use Rattle.profile.specs.Definition.{capability, checks, data-length, data-start}
 use Rattle.code.specs.Word.{InCode}
 
--- "A block is m × n bytes, strip after strip. Byte p of strip i is the coefficient of z^p in c_i(z)."
+-- FORMAT 3.1: the byte at place q of strip i stands at i × n + q of the block
 unfoldable pub subword : ℕ → Series → ℕ → Series
 subword n s i q = s (i * n + q)
 
--- "the sum over i of α^(i×l) × c_i"
+-- FORMAT 3.4: α^(i×l) × c_i, summed over all strips
 unfoldable pub nested : Profile → Series → ℕ → Series
 nested p s l q = sum (p .subwords) (λ i. pow α (i * l) ⊙ subword (p .length) s i q)
 
--- "a block is a codeword if every strip is in the code of strength t0 and, for l from 0 to v−1, the sum .. is in the code of strength t_(v−l)"
+-- FORMAT 3.5: each strip belongs to the code of strength t0, and nested sum l to that of strength t_(v−l)
 pub record Codeword (p : Profile) (s : Series) : Type 0 where
   pub subwords : (i : ℕ) → i < p .subwords → InCode (p .length) (p .t0) (subword (p .length) s i)
   pub nested-words : (l : ℕ) → l < p .nested → InCode (p .length) (capability p (p .nested - l)) (nested p s l)
 
--- "Data fills them strip by strip, places rising."
+-- FORMAT 3.7: data fill the data places of strip 0 with rising places, then those of strip 1, and so on
 abbrev pub Carries : Profile → Series → Series → Type 0
 Carries p d s = (i : ℕ) → i < p .subwords → (q : ℕ) → q < data-length p i → subword (p .length) s i (checks p i + q) ≡ d (data-start p i + q)
 

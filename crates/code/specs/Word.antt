@@ -1,8 +1,8 @@
--- Reed-Solomon codes of one word: document 01, "The field and the block". A word is a series of which the first n symbols are read.
+-- Reed-Solomon codes of one word: FORMAT 3.2 and 3.3. A word is a series of which the first n symbols are read.
 --
 --   root j              α^(j+1), the point of syndrome j
 --   syndrome n w j      the value of the word w at root j: S_j
---   InCode n t w        w is in the code of capability t, document 01's strength
+--   InCode n t w        w is in the code of capability t, FORMAT's strength
 --   upper k w           w with zeros in its first k positions
 --   check-symbols n k w the symbols for the first k positions that make k syndromes zero, given w's symbols from position k on
 --   systematic n k w    w with its check symbols in place
@@ -21,7 +21,7 @@ root j = pow α (j + 1)
 unfoldable pub syndrome : ℕ → Series → ℕ → F
 syndrome n w j = value n w (root j)
 
--- "The code of strength t holds the words whose values at α^1 to α^(2t) are zero."
+-- FORMAT 3.3: S_j is 0 for every j below 2 × t
 abbrev pub InCode : ℕ → ℕ → Series → Type 0
 InCode n t w = (j : ℕ) → j < 2 * t → syndrome n w j ≡ 𝟎
 

@@ -2,6 +2,3 @@
 pub mod Definition
 pub mod Laws
 pub mod Theorems
--- prepared: PreparedDefinition is what the promises speak of; PreparedLaws proves them.
-pub mod PreparedDefinition
-pub mod PreparedLaws

@@ -6,7 +6,7 @@
 --   Alike f g e k a c  the readings a and c end alike, but for the solvers, which stand at the end of the same rounds in each form
 --
 -- Proved: an accepted block is a codeword, always (read-accepts, read-codeword); a block with right sizes is decoded as staged decoding says (reading-is); a written
--- block is restored under document 01's condition (read-restores), and one that was not touched always (read-written); the answer is 8 exactly if
+-- block is restored under the condition of FORMAT 6.11 (read-restores), and one that was not touched always (read-written); the answer is 8 exactly if
 -- decoding fails (read-fails), where no mistake is made exactly if too many subwords have too many changes (read-fails-exactly). Two readings of the
 -- same bytes that differ in the form alone end alike (alike).
 use Prim.Native.Nat.{ℕ, _<_}
@@ -15,20 +15,21 @@ use mathlib.Core.Logic.{_↔_}
 use mathlib.Core.List.{List, map}
 use native.Mathlib.Omega.{arith}
 use lib.ListN.{length, getD}
-use borrow.Author.Tests.{eq-eqb}
 use Rattle.field.specs.Field.{F, byte}
 use Rattle.series.specs.Series.{Series}
 use Rattle.series.specs.Shift.{cut, cut-low}
 use Rattle.series.specs.Array.{bytes, bytes-word, word-bytes}
 use Rattle.series.specs.Word.{word, word-cut}
 use Rattle.profile.specs.declared.Profile.{Profile}
-use Rattle.profile.specs.declared.Refusal.the-variants.{InputSize, OutputSize, Unsettled}
+use Rattle.profile.specs.declared.Refusal.the-variants.{Unsettled}
 use Rattle.profile.specs.declared.Parsed.{Parsed}
 use Rattle.profile.specs.declared.Parsed.the-variants.{Accepted, Refused}
 use Rattle.profile.specs.declared.Answer.the-variants as answer
-use Rattle.profile.specs.Definition.{profile-of, block-size}
-use Rattle.profile.specs.Laws.{ask-yes}
-use Rattle.profile.specs.Valid.{Valid, profile-valid}
+use Rattle.profile.specs.Definition.{block-size}
+use Rattle.profile.specs.declared.questions.Caller.the-variants.{Decoder, Card}
+use Rattle.profile.specs.Questions.{profile-of, reading-of}
+use Rattle.profile.specs.QuestionsLaws.{admitted-profile}
+use Rattle.profile.specs.Valid.{Valid, admitted-valid, reading-admitted}
 use Rattle.code.specs.Definition.{Codeword}
 use Rattle.code.specs.Block.{agree-block, codeword-cong}
 use Rattle.solver.specs.declared.Form.{Form}
@@ -41,11 +42,10 @@ use Rattle.staged_decoding.specs.Restorable.{Unmistaken, Restorable, TooMany, R
 use Rattle.staged_decoding.specs.Restoring.{restoring-bytes}
 use Rattle.staged_decoding.specs.Failing.{failing-exactly}
 use Rattle.staged_decoding.specs.Clean.{untouched, decode-codeword}
-use Rattle.stages.specs.declared.subword.Line.{Line}
-use Rattle.stages.specs.View.{says, Has}
+use Rattle.stages.specs.declared.report.Line.{Line}
+use Rattle.stages.specs.Report.{says, Has}
 use Rattle.decoder.specs.declared.prepared.Reading.{Reading}
-use Rattle.decoder.specs.PreparedDefinition.{Result, read, concluded, answer-to, block-of, report-of, Gives}
-use Rattle.decoder.specs.Definition.{questioned, judged, reading}
+use Rattle.decoder.specs.Definition.{Result, read, concluded, judged, reading, answer-to, block-of, report-of, Gives}
 
 -- ---- accepted profiles
 
@@ -55,10 +55,10 @@ pub record Judged (b : List ℕ) (p : Profile) (n : ℕ) : Type 0 where
   pub size : n ≡ block-size p
 
 judged-valid : (b : List ℕ) (p : Profile) (n : ℕ) → Judged b p n → Valid p
-judged-valid b p n j = profile-valid b p (j .profile) (omega (arith, j .small 2))
+judged-valid b p n j = admitted-valid Card b 0 0 0 p (j .profile) (omega (arith, j .small 2))
 
 pub reading-is : (b : List ℕ) (p : Profile) (y : List ℕ) (o : ℕ) → Judged b p (length y) → o ≡ length y → reading b y o ≡ concluded p (decode p (bytes y))
-reading-is b p y o j e = rw (j .profile, eq-eqb (length y) (block-size p) (j .size), eq-eqb o (block-size p) (e ∙ j .size))
+reading-is b p y o j e = ap (λ a. judged a y) (reading-admitted b (length y) o p (j .profile) (j .size) (e ∙ j .size))
 
 -- ---- accepted blocks
 
@@ -72,25 +72,22 @@ pub record Accepts (b y : List ℕ) (o : ℕ) : Type 0 where
   pub is : reading b y o ≡ read p block report
 
 pub read-accepts : (b y : List ℕ) (o : ℕ) → answer-to (reading b y o) ≡ answer.Accepted → Accepts b y o
-read-accepts b y o e = go (questioned b (length y) o) refl e
+read-accepts b y o e = go (reading-of b (length y) o) refl e
   where
-    asked : (p : Profile) → questioned b (length y) o ≡ Accepted p → profile-of b ≡ Accepted p
-    asked p q = ask-yes _ InputSize (profile-of b) p (ask-yes _ OutputSize _ p q .0) .0
-
-    outcome : (p : Profile) → questioned b (length y) o ≡ Accepted p → (z : Outcome) → decode p (bytes y) ≡ z → answer-to (concluded p z) ≡ answer.Accepted
+    outcome : (p : Profile) → reading-of b (length y) o ≡ Accepted p → (z : Outcome) → decode p (bytes y) ≡ z → answer-to (concluded p z) ≡ answer.Accepted
         → Accepts b y o
     outcome p q (accepted s x) d e = record {
       p = p;
       block = s;
       report = x;
-      profile = asked p q;
+      profile = admitted-profile Decoder b (length y) o 0 p q;
       decoded = d;
       is = ap (λ a. judged a y) q ∙ ap (concluded p) d;
     }
     outcome p q (failed r) d e = let z : _≡_ {A = ℕ} 0 1 = cc in absurd (omega arith)
     outcome p q foreign d e = let z : _≡_ {A = ℕ} 0 1 = cc in absurd (omega arith)
 
-    go : (a : Parsed) → questioned b (length y) o ≡ a → answer-to (judged a y) ≡ answer.Accepted → Accepts b y o
+    go : (a : Parsed) → reading-of b (length y) o ≡ a → answer-to (judged a y) ≡ answer.Accepted → Accepts b y o
     go (Accepted p) q e = outcome p q (decode p (bytes y)) refl e
     go (Refused r) q e = let z : _≡_ {A = ℕ} 0 1 = cc in absurd (omega arith)
 

@@ -6,36 +6,13 @@ ghost use lib.ListN.{length};
 ghost use Rattle.series.specs.Array.{bytes};
 ghost use Rattle.block.specs.Parts.{Fits};
 ghost use Rattle.staged_decoding.specs.Definition.{decode as Decode};
-ghost use Rattle.decoder.specs.PreparedDefinition.{concluded, answer-to, block-of, report-of, Tells, Gives};
-ghost use Rattle.decoder.specs.Definition.{asked, questioned, reading};
+ghost use Rattle.stages.specs.Report.{Tells};
+ghost use Rattle.decoder.specs.Definition.{concluded, reading, answer-to, block-of, report-of, Gives};
 use crate::prepared::Reading;
 use profile::Parsed;
 use profile::Profile;
-use profile::Refusal;
+use profile::questions::Caller;
 use solver::Form;
-
-// The questions about the sizes of input and output.
-fn judge(p: Profile, input: usize, output: usize) -> Parsed
-    ensures { λ a. ⌜ a ≡ asked input output (Parsed.Accepted p) ⌝ }
-{
-    if input != p.block_size() {
-        return Parsed::Refused(Refusal::InputSize);
-    }
-    if output != p.block_size() {
-        return Parsed::Refused(Refusal::OutputSize);
-    }
-    Parsed::Accepted(p)
-}
-
-// The questions before decoding, one by one.
-fn questions(profile: &[u8], input: usize, output: usize) -> Parsed
-    ensures { λ a. ⌜ a ≡ questioned (now (profile .entry)) input output ⌝ }
-{
-    match profile::parse::parse(profile) {
-        Parsed::Accepted(p) => judge(p, input, output),
-        Parsed::Refused(q) => Parsed::Refused(q),
-    }
-}
 
 // Makes the tables of an accepted profile, and reads a block by them.
 fn read(p: Profile, form: Form, input: &[u8], out: &mut [u8]) -> Reading
@@ -48,13 +25,16 @@ fn read(p: Profile, form: Form, input: &[u8], out: &mut [u8]) -> Reading
     crate::prepared::read(p, form, &t, &u, input, out)
 }
 
-// Reads a block with the solver in the named form, document 01's reader.
+// Reads a block with the solver in the named form: the block with its report, or a refusal.
 pub fn decode(profile: &[u8], input: &[u8], out: &mut [u8], form: Form) -> Reading
-    ensures answer { λ r. ⌜ r .answer ≡ answer-to (reading (now (profile .entry)) (now (input .entry)) (length (now (out .entry)))) ⌝ }
-    ensures block { λ _. ⌜ now (out .exit) ≡ block-of (reading (now (profile .entry)) (now (input .entry)) (length (now (out .entry)))) (now (out .entry)) ⌝ }
-    ensures report { λ r. ⌜ Tells form (report-of (reading (now (profile .entry)) (now (input .entry)) (length (now (out .entry))))) (r .report) ⌝ }
+    ensures answer { λ r. ⌜ r .answer ≡
+        answer-to (reading (now (profile .entry)) (now (input .entry)) (length (now (out .entry)))) ⌝ }
+    ensures block { λ _. ⌜ now (out .exit) ≡
+        block-of (reading (now (profile .entry)) (now (input .entry)) (length (now (out .entry)))) (now (out .entry)) ⌝ }
+    ensures report { λ r. ⌜
+        Tells form (report-of (reading (now (profile .entry)) (now (input .entry)) (length (now (out .entry))))) (r .report) ⌝ }
 {
-    match questions(profile, input.len(), out.len()) {
+    match profile::questions::admit(Caller::Decoder, profile, input.len(), out.len(), 0) {
         Parsed::Accepted(p) => read(p, form, input, out),
         Parsed::Refused(q) => crate::prepared::refuse(q, form, out),
     }

@@ -9,11 +9,11 @@ ghost use Rattle.block.specs.Parts.{Fits};
 ghost use Rattle.code.specs.Check.{Subwords, received};
 ghost use Rattle.block.specs.Table.{table};
 ghost use Rattle.block.specs.CodewordDefinition.{Tables, Further};
-ghost use Rattle.staged_decoding.specs.Definition.{decode as Decode, total, count-of};
+ghost use Rattle.staged_decoding.specs.Definition.{decode as Decode};
 ghost use Rattle.staged_decoding.specs.Clean.{untouched};
-ghost use Rattle.stages.specs.SubwordDefinition.{verdict-of};
-ghost use Rattle.stages.specs.View.{says, Reached};
-ghost use Rattle.decoder.specs.PreparedDefinition.{concluded, Tells, Gives};
+ghost use Rattle.stages.specs.Report.{Tells};
+ghost use Rattle.stages.specs.View.{Reached};
+ghost use Rattle.decoder.specs.Definition.{concluded, Gives};
 use field::Gf;
 use polynomial::SYNDROMES;
 use profile::Answer;
@@ -22,61 +22,15 @@ use profile::Refusal;
 use profile::SUBWORDS;
 use solver::Form;
 use stages::Ending;
-use stages::subword::Line;
-use stages::subword::Verdict;
+use stages::report::Report;
 
 // The most symbols of a block.
 const SYMBOLS: usize = 2040;
-
-// The lines of the subwords, lines that are no subword's being clean; how many symbols were changed; the last stage entered.
-pub struct Report {
-    pub lines: [Line; SUBWORDS],
-    pub changed: u16,
-    pub last: u8,
-}
 
 // A refusal comes with the empty report.
 pub struct Reading {
     pub answer: Answer,
     pub report: Report,
-}
-
-// How many symbols a line says were changed.
-fn changes(l: Line) -> u16
-    ensures { λ n. ⌜ n ≡ count-of (verdict-of (l .verdict)) ⌝ }
-    ensures small { λ n. ⌜ n ≤ 255 ⌝ }
-{
-    let v = l.verdict;
-    match v {
-        Verdict::Clean => 0,
-        Verdict::Corrected(count, _) => count as u16,
-    }
-}
-
-// How many symbols were changed in m subwords.
-fn changed(lines: [Line; SUBWORDS], m: usize) -> u16
-    requires { ⌜ m ≤ 8 ⌝ }
-    ensures { λ n. ⌜ n ≡ total m (λ i. count-of (says lines i)) ⌝ }
-{
-    let mut sum: u16 = 0;
-    let mut i: usize = 0;
-    while i < m {
-        sum = sum + changes(lines[i]);
-        i = i + 1;
-    }
-    sum
-}
-
-// The empty report: clean lines, nothing changed, stage 0.
-fn empty(form: Form) -> Report
-    ensures { λ r. ⌜ Tells form untouched r ⌝ }
-{
-    let lines = stages::start(form);
-    Report {
-        lines: lines,
-        changed: 0,
-        last: 0,
-    }
 }
 
 // A refusal leaves every byte of the output.
@@ -85,7 +39,7 @@ pub fn refuse(q: Refusal, form: Form, out: &mut [u8]) -> Reading
     ensures same { λ _. ⌜ now (out .exit) ≡ now (out .entry) ⌝ }
     ensures report { λ r. ⌜ Tells form untouched (r .report) ⌝ }
 {
-    let report = empty(form);
+    let report = stages::report::empty(form);
     Reading {
         answer: Answer::Refused(q),
         report: report,
@@ -127,7 +81,7 @@ fn conclude(p: Profile, form: Form, u: &[u64], e: Ending, block: &[u8], out: &mu
         answer: Answer::Accepted,
         report: Report {
             lines: lines,
-            changed: changed(lines, p.subwords as usize),
+            changed: stages::report::changed(lines, p.subwords as usize),
             last: e.stage,
         },
     }
@@ -162,7 +116,7 @@ pub fn read(p: Profile, form: Form, t: &[u64], u: &[u64], input: &[u8], out: &mu
         copy(input, out);
         return Reading {
             answer: Answer::Accepted,
-            report: empty(form),
+            report: stages::report::empty(form),
         };
     }
     let n = input.len();

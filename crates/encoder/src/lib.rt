@@ -7,43 +7,22 @@ ghost use mathlib.Core.Path.{_≡_};
 ghost use lib.ListN.{length};
 ghost use Rattle.series.specs.Array.{bytes};
 ghost use Rattle.profile.specs.Definition.{answer-of, checks as Checks, data-start, data-size as DataSize};
+ghost use Rattle.profile.specs.Questions.{writing};
 ghost use Rattle.divider.specs.GeneratorTable.{Table};
 ghost use Rattle.code.specs.Definition.{Encodes};
 ghost use Rattle.block.specs.Parts.{Fits};
-ghost use Rattle.encoder.specs.Definition.{asked, writing, written};
+ghost use Rattle.encoder.specs.Definition.{written};
 ghost use Rattle.encoder.specs.Write.{Upper};
 use profile::Answer;
 use profile::Parsed;
 use profile::Profile;
 use profile::Refusal;
+use profile::questions::Caller;
 
 // What is left to write: the first subwords, and their data.
 struct Left {
     subwords: usize,
     symbols: usize,
-}
-
-// The questions about the sizes of input and output.
-fn judge(p: Profile, input: usize, output: usize) -> Parsed
-    ensures { λ a. ⌜ a ≡ asked input output (Parsed.Accepted p) ⌝ }
-{
-    if input != p.data_size() {
-        return Parsed::Refused(Refusal::InputSize);
-    }
-    if output != p.block_size() {
-        return Parsed::Refused(Refusal::OutputSize);
-    }
-    Parsed::Accepted(p)
-}
-
-// All questions, one by one.
-fn questions(profile: &[u8], input: usize, output: usize) -> Parsed
-    ensures { λ a. ⌜ a ≡ writing (now (profile .entry)) input output ⌝ }
-{
-    match profile::parse::parse(profile) {
-        Parsed::Accepted(p) => judge(p, input, output),
-        Parsed::Refused(q) => Parsed::Refused(q),
-    }
 }
 
 // Writes four subwords at a time, while so many are left that nothing is carried to.
@@ -111,12 +90,15 @@ fn refuse(q: Refusal, out: &mut [u8]) -> Answer
     Answer::Refused(q)
 }
 
-// Writes the block with the given data, document 01's writer.
+// Writes the block with the given data, or tells the first question that says no.
 pub fn encode(profile: &[u8], data: &[u8], out: &mut [u8]) -> Answer
-    ensures answer { λ a. ⌜ a ≡ answer-of (writing (now (profile .entry)) (length (now («data» .entry))) (length (now (out .entry)))) ⌝ }
-    ensures block { λ _. ⌜ now (out .exit) ≡ written (writing (now (profile .entry)) (length (now («data» .entry))) (length (now (out .entry)))) (now («data» .entry)) (now (out .entry)) ⌝ }
+    ensures answer { λ a. ⌜ a ≡
+        answer-of (writing (now (profile .entry)) (length (now («data» .entry))) (length (now (out .entry)))) ⌝ }
+    ensures block { λ _. ⌜ now (out .exit) ≡
+        written (writing (now (profile .entry)) (length (now («data» .entry))) (length (now (out .entry))))
+        (now («data» .entry)) (now (out .entry)) ⌝ }
 {
-    match questions(profile, data.len(), out.len()) {
+    match profile::questions::admit(Caller::Encoder, profile, data.len(), out.len(), 0) {
         Parsed::Accepted(p) => {
             write(p, data, out);
             Answer::Accepted

@@ -17,7 +17,8 @@ use Rattle.block.specs.Table.{table}
 use Rattle.staged_decoding.specs.Definition.{Progress, open?, window}
 use Rattle.extend.specs.LagrangeDefinition.{flag, lagrange}
 
--- for an unsettled subword i, b telling the unsettled ones, the solution of document 01's small system is the syndrome of this word
+-- for an unsettled subword i, b telling the unsettled ones, the equations of FORMAT 6.6 are solved by the syndrome of
+-- this word
 abbrev pub merged : Profile → (ℕ → Bool) → Series → ℕ → Series
 merged p b s i = combined (p .length) s (lagrange (p .subwords) b i) 0 (p .subwords)
 

@@ -1,7 +1,6 @@
 -- GF(256): all that the promises of this crate speak of. Definitions only; their laws stand in the files beside this one.
 --
--- Document 01: a field value is a byte. Sum is exclusive or. Product is polynomial product modulo
--- z^8 + z^4 + z^3 + z^2 + 1 (285). α is 2.
+-- FORMAT 1: bytes as polynomials over the two-element field; the product is reduced modulo 285, and α is the byte 2.
 --
 --   F                the field values: polynomials over the two-element field with degree below 8
 --   𝟎  𝟏  α          zero, one, and z itself
@@ -85,7 +84,7 @@ pow x (suc n) = x ⊙ pow x n
 unfoldable pub inv : F → F
 inv x = pow x 254
 
--- ---- bytes: bit i is the coefficient of z^i
+-- ---- bytes: bit i goes with z^i (FORMAT 1.1)
 
 unfoldable pub isOdd : ℕ → Bool
 isOdd n = eqb (n % 2) 1

@@ -11,7 +11,7 @@ use Rattle.profile.specs.declared.Parsed.{Parsed}
 use Rattle.profile.specs.FetchDefinition.{between, part}
 use Rattle.solver.specs.declared.Form.{Form}
 use Rattle.solver.specs.declared.Form.the-variants.{Plain, Lookahead, Scaled}
-use Rattle.decoder.specs.PreparedDefinition.{Result, answer-to, report-of}
+use Rattle.decoder.specs.Definition.{Result, answer-to, report-of}
 use Rattle.gii.specs.NumbersDefinition.{stage-of, listed}
 
 abbrev pub Stands : Parsed → ℕ → List ℕ → ℕ → Type 0

@@ -8,26 +8,28 @@ use mathlib.Core.Path.{_≡_, refl, sym, ap, ap₂, _∙_, fun-ext}
 use mathlib.Core.List.{List, [], _∷_}
 use native.Mathlib.Nat.{mul-le-mul-right, one-mul}
 use native.Mathlib.Omega.{arith}
-use borrow.Author.Tests.{ltb-true, ne-eqb}
-use lib.Dec.{ltb, eqb}
+use borrow.Author.Tests.{ne-eqb}
+use lib.Dec.{eqb}
 use lib.ListN.{length, getD, take, drop}
 use Rattle.profile.specs.declared.Profile.{Profile}
 use Rattle.profile.specs.declared.Refusal.{Refusal}
-use Rattle.profile.specs.declared.Refusal.the-variants.{InputSize, Subword}
 use Rattle.profile.specs.declared.Parsed.{Parsed}
 use Rattle.profile.specs.declared.Parsed.the-variants.{Accepted, Refused}
 use Rattle.profile.specs.declared.Answer.{Answer}
 use Rattle.profile.specs.declared.Answer.the-variants as answer
-use Rattle.profile.specs.Definition.{profile-of, answer-of, block-size, data-size}
-use Rattle.profile.specs.Laws.{ask-yes}
-use Rattle.profile.specs.Valid.{Valid, profile-valid, checks-below, data-start-most}
+use Rattle.profile.specs.declared.questions.Caller.the-variants.{Fetch, Card}
+use Rattle.profile.specs.Definition.{answer-of, block-size, data-size}
+use Rattle.profile.specs.Questions.{profile-of, fetching}
+use Rattle.profile.specs.QuestionsLaws.{admitted-profile}
+use Rattle.profile.specs.Valid.{Valid, admitted-valid, checks-below, data-start-most}
 use Rattle.profile.specs.LayoutDefinition.{if-accepted, start}
-use Rattle.profile.specs.FetchDefinition.{fetching, part, empty, refuses}
+use Rattle.profile.specs.FetchDefinition.{part, empty, refuses}
+use Rattle.profile.specs.FetchLaws.{fetching-below}
 use Rattle.solver.specs.declared.Form.{Form}
 use Rattle.solver.specs.declared.Form.the-variants.{Plain}
-use Rattle.stages.specs.View.{says}
-use Rattle.decoder.specs.declared.prepared.Report.{Report}
-use Rattle.decoder.specs.PreparedDefinition.{Result, answer-to, report-of, Tells}
+use Rattle.stages.specs.Report.{says, Tells}
+use Rattle.stages.specs.declared.report.Report.{Report}
+use Rattle.decoder.specs.Definition.{Result, answer-to, report-of}
 use Rattle.gii.specs.NumbersDefinition.{stage-of, listed, filled}
 use Rattle.gii.specs.Definition.{Stands, form-of, numbers}
 
@@ -46,7 +48,7 @@ pub size-refuses : (f : Profile → ℕ) → ((p : Profile) → Valid p → 0 < 
 size-refuses f some b small = go (profile-of b) refl
   where
     go : (a : Parsed) → profile-of b ≡ a → eqb (if-accepted f a) 0 ≡ refuses (answer-of a)
-    go (Accepted p) e = ne-eqb (f p) 0 (λ z. omega (arith, some p (profile-valid b p e (omega arith))))
+    go (Accepted p) e = ne-eqb (f p) 0 (λ z. omega (arith, some p (admitted-valid Card b 0 0 0 p e (omega arith))))
     go (Refused q) e = refl
 
 -- ---- parts
@@ -85,14 +87,12 @@ module _ (b : List ℕ) (s i : ℕ) where
       → (p : Profile) × (fetching b s i ≡ Accepted p) × (profile-of b ≡ Accepted p) × (i < p .subwords)
   fetched e =
       let (p, is) = accepted-of (fetching b s i) e in
-      let (e1, below) = ask-yes (λ p. ltb i (p .subwords)) Subword _ p is in
-      let (e2, _) = ask-yes _ InputSize (profile-of b) p e1 in
-      (p, is, e2, ltb-true i (p .subwords) below)
+      (p, is, admitted-profile Fetch b s 0 i p is, fetching-below b s i p is)
 
   pub fetched-small : answer-of (fetching b s i) ≡ answer.Accepted → ((k : ℕ) → getD b k 0 < 256) → i < 256
   fetched-small e small =
       let (p, _, is, below) = fetched e in
-      omega (arith, profile-valid b p is (omega (arith, small 2)) .subwords)
+      omega (arith, admitted-valid Card b 0 0 0 p is (omega (arith, small 2)) .subwords)
 
   pub start-accepted : (n : ℕ) → answer-of (fetching b s i) ≡ answer.Accepted → n ≡ if-accepted (λ p. start p i) (profile-of b)
       → n ≡ if-accepted (λ p. start p i) (fetching b s i)

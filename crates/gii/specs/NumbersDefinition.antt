@@ -47,6 +47,6 @@ head-numbers s r c = s ∷ r ∷ c / 256 ∷ c % 256 ∷ []
 abbrev pub listed : (stage last changed : ℕ) → (ℕ → Line) → List ℕ
 listed s r c f = head-numbers s r c ++ lines-numbers 8 f
 
--- "every output buffer keeps its bytes", past what is written
+-- what is not written stays
 abbrev pub filled : List ℕ → List ℕ → List ℕ
 filled l b = take (length b) l ++ drop (length l) b

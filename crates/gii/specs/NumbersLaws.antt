@@ -10,9 +10,9 @@ use native.Mathlib.Omega.{arith}
 use lib.ListN.{length, getD, set, take, drop, length-set, length-append, length-drop, drop-of-length-le}
 use lib.Seq.{take-all, take-suc-set, length-take-le}
 use Rattle.staged_decoding.specs.Definition.{Line}
-use Rattle.stages.specs.declared.subword.Line as stored
-use Rattle.stages.specs.SubwordDefinition.{verdict-of}
-use Rattle.stages.specs.View.{says}
+use Rattle.stages.specs.declared.report.Line as stored
+use Rattle.stages.specs.Report.{verdict-of}
+use Rattle.stages.specs.Report.{says}
 use Rattle.stages.specs.Lines.{has, says-at}
 use Rattle.gii.specs.NumbersDefinition.{line-numbers, lines-numbers, filled}
 

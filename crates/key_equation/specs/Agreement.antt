@@ -1,7 +1,7 @@
--- The agreement theorem: the three forms, run over any list of rounds, stay as document 01 defines them from the measure.
+-- The agreement theorem, FORMAT 8.15: the three forms stay as the measure says, for any list of rounds.
 --
 --   PlainBelow, LookaheadBelow, ScaledBelow   the polynomials of a state have coefficients below n alone
---   Bounded n rounds k                        so it is for a list of rounds, run in each form, after its first k events
+--   Bounded n rounds k                        so it is in each form, after the first k events of these rounds
 --
 -- Proved: each form's whole state, as one equation (plain-run, lookahead-run, scaled-run); from these the claim (agreement); the degrees (bounded),
 -- so that 49 coefficients hold every polynomial of a run of at most 48 syndromes (fits).
@@ -145,16 +145,15 @@ module _ (rounds : List (List F)) (k : ℕ) where
       held : (P : Scaled.State → Type 0) → P (scaled-is r S m x) → P (run scaled rounds k .state)
       held P h = subst P (sym scaled-run) h
 
--- Document 01: "For every list of rounds, run in each form, at the start, after each entry and after each iteration, r being the iterations
--- so far and the measure taken after r": `rounds` is any list, k counts the events (entries and iterations) that have happened, 0 at the start.
+-- FORMAT 8.15: `rounds` is any list, and k counts the events, entries and iterations, that have happened.
 --
---   "the swaps came at exactly the same iterations as the measure's"   swaps, in each form
---   "k and L are the measure's"                                        k and L, in each form
---   "plain and ahead Λ, B and γ equal the measure's"                   Λ, B and γ of in-plain and in-lookahead
---   "the scaled Λ, B and γ' are as the factors say"                    Λ, B and γ′ of in-scaled
---   "the ahead Δ and Θ are the sums above"                             Δ and Θ of in-lookahead
---   "the scaled Δ and Θ are a and b times these"                       Δ and Θ of in-scaled
---   "each scalar held is as defined"                                   γS, δS, θS, g1, g2, h1, h2 of in-lookahead; g, ρ, ξ, ρS, ξS of in-scaled
+--   swaps as the measure, its k and L      swaps, k and L, in each form
+--   the measure's Λ, B and γ               Λ, B and γ of in-plain and in-lookahead
+--   ahead: Δ and Θ as 8.7 says             Δ and Θ of in-lookahead
+--   ahead: the held scalars                γS, δS, θS, g1, g2, h1, h2 of in-lookahead
+--   scaled: Λ and B with factors, γ'       a≢0, b≢0, Λ, B and γ′ of in-scaled
+--   scaled: Δ and Θ with factors           Δ and Θ of in-scaled
+--   scaled: the held scalars               g, ρ, ξ, ρS, ξS of in-scaled
 --
 -- There is no bound on the number of syndromes.
 pub agreement : (rounds : List (List F)) (k : ℕ) → Agreed rounds k
@@ -210,6 +209,6 @@ bounded-by n rounds k h = record {
 pub bounded : (rounds : List (List F)) (k : ℕ) → Bounded (suc (iterations rounds k)) rounds k
 bounded rounds k = bounded-by _ rounds k (omega arith)
 
--- "All polynomials have up to 49 coefficients": the one place where the number counts
+-- FORMAT 8.3: no run needs more than 49 coefficients; the one place where the number counts
 pub fits : (rounds : List (List F)) → length (joined rounds) ≤ 48 → (k : ℕ) → Bounded 49 rounds k
 fits rounds h k = bounded-by 49 rounds k (omega (arith, iterations-le rounds k))

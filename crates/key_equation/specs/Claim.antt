@@ -1,4 +1,4 @@
--- Document 01's claim about a run, clause by clause, each form measured against the plain iteration over the joined syndromes.
+-- The agreement, FORMAT 8.15, clause by clause: each form against the plain iteration over the joined syndromes.
 --
 --   PlainAgrees, LookaheadAgrees, ScaledAgrees   the clauses for a run in that form, after some of its events
 --   Agreed rounds k                              the claim of a list of rounds, after its first k events
@@ -20,30 +20,30 @@ use Rattle.key_equation.specs.Run.{Factors, At, plain, lookahead, scaled
 -- After r iterations: S the syndromes so far, 0 past the round; m the measure, swapped the iterations at which it swapped; p where the run is.
 
 pub record PlainAgrees (r : ℕ) (m : Plain.State) (swapped : ℕ → Bool) (p : At plain) : Type 0 where
-  -- the swaps came at exactly the same iterations as the measure's
+  -- the form has swapped at those iterations at which the measure did, and at no other
   pub swaps : p .swapped ≡ swapped
-  -- k and L are the measure's
+  -- it has the measure's k and L
   pub k : p .state .k ≡ m .k
   pub L : len r (p .state .k) ≡ len r (m .k)
-  -- Λ, B and γ equal the measure's
+  -- it has the measure's Λ, B and γ
   pub Λ : p .state .Λ ≡ m .Λ
   pub B : p .state .B ≡ m .B
   pub γ : p .state .γ ≡ m .γ
 
 pub record LookaheadAgrees (r : ℕ) (S : Series) (m : Plain.State) (swapped : ℕ → Bool) (p : At lookahead) : Type 0 where
-  -- the swaps came at exactly the same iterations as the measure's
+  -- the form has swapped at those iterations at which the measure did, and at no other
   pub swaps : p .swapped ≡ swapped
-  -- k and L are the measure's
+  -- it has the measure's k and L
   pub k : p .state .k ≡ m .k
   pub L : len r (p .state .k) ≡ len r (m .k)
-  -- Λ, B and γ equal the measure's
+  -- it has the measure's Λ, B and γ
   pub Λ : p .state .Λ ≡ m .Λ
   pub B : p .state .B ≡ m .B
   pub γ : p .state .γ ≡ m .γ
-  -- Δ and Θ are the sums
+  -- Δ and Θ are as FORMAT 8.7 says
   pub Δ : (j : ℕ) → p .state .Δ j ≡ from-to j (r + j) (λ i. m .Λ i ⊙ S (r + j - i))
   pub Θ : (j : ℕ) → p .state .Θ j ≡ from-to j (r + j) (λ i. m .B i ⊙ S (r + j - i))
-  -- each scalar held is as defined
+  -- each held scalar is as FORMAT 8.7 says
   pub γS : p .state .γS ≡ p .state .γ ⊙ S (r + 1)
   pub δS : p .state .δS ≡ p .state .Δ 0 ⊙ S (r + 1)
   pub θS : p .state .θS ≡ p .state .Θ 0 ⊙ S (r + 2)
@@ -54,29 +54,29 @@ pub record LookaheadAgrees (r : ℕ) (S : Series) (m : Plain.State) (swapped : �
 
 -- x is the factors a and b
 pub record ScaledAgrees (r : ℕ) (S : Series) (m : Plain.State) (x : Factors) (swapped : ℕ → Bool) (p : At scaled) : Type 0 where
-  -- the swaps came at exactly the same iterations as the measure's
+  -- the form has swapped at those iterations at which the measure did, and at no other
   pub swaps : p .swapped ≡ swapped
-  -- k and L are the measure's
+  -- it has the measure's k and L
   pub k : p .state .k ≡ m .k
   pub L : len r (p .state .k) ≡ len r (m .k)
   -- neither factor is zero
   pub a≢0 : x .a ≢ 𝟎
   pub b≢0 : x .b ≢ 𝟎
-  -- Λ, B and γ' are as the factors say
+  -- a × S'_r and b × S'_r are the factors of Λ and B, and γ' is b × γ
   pub Λ : p .state .Λ ≡ K (x .a ⊙ or-one (S r)) ⊠ m .Λ
   pub B : p .state .B ≡ K (x .b ⊙ or-one (S r)) ⊠ m .B
   pub γ′ : p .state .γ′ ≡ x .b ⊙ m .γ
-  -- Δ and Θ are a and b times the sums
+  -- Δ is a times the first of the sums of FORMAT 8.7, Θ is b times the second
   pub Δ : (j : ℕ) → p .state .Δ j ≡ x .a ⊙ from-to j (r + j) (λ i. m .Λ i ⊙ S (r + j - i))
   pub Θ : (j : ℕ) → p .state .Θ j ≡ x .b ⊙ from-to j (r + j) (λ i. m .B i ⊙ S (r + j - i))
-  -- each scalar held is as defined
+  -- each held scalar is as FORMAT 8.10 says
   pub g : p .state .g ≡ or-one (S (r + 1)) ⊙ inv (or-one (S r))
   pub ρ : p .state .ρ ≡ cond (isZero (p .state .Δ 0)) 𝟏 (p .state .γ′)
   pub ξ : p .state .ξ ≡ p .state .Δ 0
   pub ρS : p .state .ρS ≡ p .state .g ⊙ p .state .ρ
   pub ξS : p .state .ξS ≡ p .state .g ⊙ p .state .ξ
 
--- for a list of rounds, run in each form, after its first k events
+-- FORMAT 8.15 of a list of rounds, in all three forms, after its first k events
 pub record Agreed (rounds : List (List F)) (k : ℕ) : Type 0 where
   pub in-plain :
       PlainAgrees (iterations rounds k) (measure (entry (joined rounds)) (iterations rounds k))

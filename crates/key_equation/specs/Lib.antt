@@ -1,4 +1,5 @@
--- Shared to Claim are the definitions, in the order of document 01; the others prove: Length to Ends that the forms agree, Shortest what they find.
+-- Shared to Claim are the definitions, in the order of FORMAT 8; the others prove: Length to Ends that the forms agree,
+-- Shortest what they find.
 pub mod Shared
 pub mod Plain
 pub mod Lookahead

@@ -1,5 +1,6 @@
--- The lookahead form (document 01's "ahead"): document 003, Algorithm 2, line by line. S is the run's syndromes so far, 0 past the round.
--- Every scalar is held before the iteration that uses it: an iteration multiplies no syndrome into a discrepancy that it has just computed.
+-- The lookahead form, FORMAT's ahead: FORMAT 8.6 to 8.9, which is Algorithm 2 of the nested-solver paper, line by line.
+-- S is the run's syndromes so far, 0 past the round. Scalars are held for the next iteration, so that an iteration
+-- multiplies no syndrome into a discrepancy that it has just computed.
 use Prim.Native.Nat.{ℕ, _+_}
 use mathlib.Core.Bool.{Bool, cond}
 use lib.IntN.{ℤ, pos}
@@ -39,7 +40,7 @@ start = record {
   h2 = 𝟎;
 }
 
--- initialization
+-- FORMAT 8.8
 abbrev pub enter : ℕ → Series → State → State
 enter u S s = record {
   Λ = s .Λ;
@@ -57,7 +58,7 @@ enter u S s = record {
   h2 = s .γ ⊙ S (u + 1) ⊙ S (u + 2);
 }
 
--- lines 1 to 3
+-- FORMAT 8.9: lines 1 to 3 of the algorithm
 abbrev pub next-Λ : State → Series
 next-Λ s = K (s .γ) ⊠ s .Λ ⊞ K (s .Δ 0) ⊠ (Z ⊠ s .B)
 
@@ -67,7 +68,7 @@ next-Δ s = K (s .γ) ⊠ tail (s .Δ) ⊞ K (s .γS) ⊠ s .Λ ⊞ K (s .Δ 0) 
 abbrev pub next-δS : State → F
 next-δS s = s .h1 ⊙ s .Δ 1 ⊕ s .h2 ⊙ s .Λ 0 ⊕ s .Δ 0 ⊙ s .θS
 
--- lines 1 to 4 and 5 to 10
+-- FORMAT 8.9, a swap: lines 1 to 10
 abbrev pub swap : ℕ → Series → State → State
 swap r S s = record {
   Λ = next-Λ s;
@@ -85,7 +86,7 @@ swap r S s = record {
   h2 = s .Δ 0 ⊙ s .g2;
 }
 
--- lines 1 to 4 and 11 to 16
+-- FORMAT 8.9, a hold: lines 1 to 4 and 11 to 16
 abbrev pub hold : ℕ → Series → State → State
 hold r S s = record {
   Λ = next-Λ s;

@@ -1,4 +1,4 @@
--- The plain form (Reed, Shih, Truong). S is the syndromes.
+-- The plain form (Reed, Shih and Truong): FORMAT 8.5. S is the syndromes.
 use Prim.Native.Nat.{ℕ, _-_}
 use mathlib.Core.Bool.{Bool, cond}
 use lib.IntN.{ℤ, pos}
@@ -15,23 +15,23 @@ pub record State : Type 0 where
 abbrev pub start : State
 start = record { Λ = K 𝟏; B = K 𝟏; γ = 𝟏; k = pos 0 }
 
--- δ is the sum of Λ_i × S_(r−i) over i from 0 to r
+-- the discrepancy of iteration r
 unfoldable pub δ : ℕ → Series → State → F
 δ r S s = from-to 0 r (λ i. s .Λ i ⊙ S (r - i))
 
--- the new Λ is γΛ + δzB
+-- Λ becomes γΛ + δzB
 abbrev pub update : F → State → Series
 update d s = K (s .γ) ⊠ s .Λ ⊞ K d ⊠ (Z ⊠ s .B)
 
--- B is the old Λ, γ is δ
+-- at a swap B becomes Λ, and γ becomes δ
 abbrev pub swap : F → State → State
 swap d s = record { Λ = update d s; B = s .Λ; γ = d; k = k-swap (s .k) }
 
--- B is zB
+-- at a hold B becomes zB, and γ stays
 abbrev pub hold : F → State → State
 hold d s = record { Λ = update d s; B = Z ⊠ s .B; γ = s .γ; k = k-hold (s .k) }
 
--- entering a round changes nothing: the form takes its δ from the run's syndromes
+-- an entry changes nothing: δ is found from all syndromes
 abbrev pub enter : ℕ → Series → State → State
 enter u S s = s
 

@@ -1,11 +1,11 @@
--- Runs: a list of rounds in one form, event by event; the measure; the factors a and b of the scaled form.
+-- Runs, event by event (FORMAT 8.1); the measure (8.13); the factors a and b of the scaled form (8.14).
 --
 --   Form               a form: its states, the start, entering a round, an iteration, and whether the iteration is a swap
 --   joined rounds      the syndromes of all rounds, one after the other
---   events rounds      what happens in a run: a round is entered, one iteration follows for each of its syndromes, the next is entered, ..
+--   events rounds      what happens in a run: for each round in turn, the entry and then an iteration for each syndrome
 --   run f rounds k     where the run in form f is after its first k events
 --   iterations, so-far how many of the first k events are iterations; the syndromes of the rounds entered by then. No form has a say in them
---   measure S r        the plain iteration, r times, over the syndromes S; it is fed these and no answer of any form
+--   measure S r        the plain form after r iterations over the joined syndromes S; no form's answer enters it
 --   factors S r        a and b, from the measure alone
 use Prim.Native.Nat.{ℕ, zero, suc}
 use mathlib.Core.Bool.{Bool, false, cond}
@@ -70,7 +70,7 @@ outset f = record { known = []; r = 0; state = f .start; swapped = λ i. false }
 unfoldable pub note : Bool → ℕ → (ℕ → Bool) → ℕ → Bool
 note b r swapped i = ite (ℕ-discrete i r) b (swapped i)
 
--- a round's syndromes join those so far; past the round they are read as 0
+-- FORMAT 8.2: a round's syndromes join those so far; a syndrome past the round is read as 0
 abbrev pub happen : (f : Form) → Event → At f → At f
 happen f (entering round) p = record {
   known = p .known ++ round;
@@ -108,7 +108,7 @@ iterations rounds k = count (take k (events rounds))
 unfoldable pub so-far : List (List F) → ℕ → Series
 so-far rounds k = entry (entered (take k (events rounds)))
 
--- ---- the measure
+-- ---- the measure: FORMAT 8.13
 
 unfoldable pub measure : Series → ℕ → Plain.State
 measure S zero = Plain.start
@@ -119,13 +119,13 @@ unfoldable pub measure-swapped : Series → ℕ → ℕ → Bool
 measure-swapped S zero = λ i. false
 measure-swapped S (suc r) = note (Plain.swapping r S (measure S r)) r (measure-swapped S r)
 
--- ---- the factors
+-- ---- the factors: FORMAT 8.14
 
 pub record Factors : Type 0 where
   pub a : F
   pub b : F
 
--- a becomes ab, or a/γ if δ = 0; b becomes abγ at a swap, abδ at a hold with δ ≠ 0, and stays at δ = 0
+-- with δ = 0 a becomes a / γ, and b stays; else a becomes a × b, and b becomes a × b × γ (swap) or a × b × δ (hold)
 abbrev pub next-factors : (δ : F) (γ : F) (swap : Bool) → Factors → Factors
 next-factors δ γ swap x = record {
   a = cond (isZero δ) (x .a ⊙ inv γ) (x .a ⊙ x .b);

@@ -1,4 +1,4 @@
--- The scaled form: document 01's text. S is the run's syndromes so far, 0 past the round.
+-- The scaled form: FORMAT 8.10 to 8.12. S is the run's syndromes so far, 0 past the round.
 use Prim.Native.Nat.{ℕ, _+_}
 use mathlib.Core.Bool.{Bool, cond}
 use lib.IntN.{ℤ, pos}
@@ -19,7 +19,7 @@ pub record State : Type 0 where
   pub ρS : F
   pub ξS : F
 
--- the scalars held for iteration r: g = S'_(r+1)/S'_r; ρ is γ', or 1 if d = 0; ξ is d; ρ_S is gρ; ξ_S is gξ
+-- FORMAT 8.10: the five scalars that are held for iteration r
 abbrev pub ratio : ℕ → Series → F
 ratio r S = or-one (S (r + 1)) ⊙ inv (or-one (S r))
 
@@ -44,7 +44,7 @@ holding r S Λ B γ′ k Δ Θ = record {
 abbrev pub start : State
 start = record { Λ = K 𝟏; B = K 𝟏; γ′ = 𝟏; k = pos 0; Δ = O; Θ = O; g = 𝟏; ρ = 𝟏; ξ = 𝟎; ρS = 𝟏; ξS = 𝟎 }
 
--- add S_uΛ to Δ and S_uB to Θ, then multiply Λ and B by S'_u
+-- FORMAT 8.11: Δ becomes Δ + S_u Λ, and Θ becomes Θ + S_u B; then Λ becomes S'_u Λ, and B becomes S'_u B
 abbrev pub enter : ℕ → Series → State → State
 enter u S s = holding u S
     (K (or-one (S u)) ⊠ s .Λ)
@@ -54,7 +54,7 @@ enter u S s = holding u S
     (s .Δ ⊞ K (S u) ⊠ s .Λ)
     (s .Θ ⊞ K (S u) ⊠ s .B)
 
--- f, unless x = 0
+-- FORMAT 8.12: a term in brackets is left out if S_(r+1) is 0; f is the term and x is S_(r+1)
 unfoldable pub unless : F → Series → Series
 unless x f = cond (isZero x) O f
 
@@ -73,7 +73,7 @@ swap r S s = holding (r + 1) S
     (next-Δ r S s)
     (K (s .ρ) ⊠ tail (s .Δ) ⊞ unless (S (r + 1)) (K (s .ρS) ⊠ s .Λ))
 
--- a hold takes ξ as 1 and ξ_S as g if d = 0
+-- FORMAT 8.12: ξ* and ξ_S*, which a hold uses, are 1 and g if d is 0
 abbrev pub ξ-hold : State → F
 ξ-hold s = cond (isZero (s .Δ 0)) 𝟏 (s .ξ)
 

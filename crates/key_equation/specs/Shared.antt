@@ -1,9 +1,9 @@
--- What the three forms of the key-equation solver share. Document 01, "The three solvers".
+-- What the three forms of the key-equation solver share: FORMAT 8.2 to 8.4.
 --
 --   swaps d k      whether an iteration with discrepancy d is a swap, and not a hold
 --   k-swap, k-hold how k steps
---   len r k        L, the length: (r − k)/2 after r iterations
---   ahead r f S    coefficient j: the sum of f_i × S_(r+j−i) over i from j to r+j. Δ is this of Λ, Θ of B
+--   len r k        the length L, half of r − k
+--   ahead r f S    the sums of FORMAT 8.7, coefficient j: f_i × S_(r+j−i), i from j to r+j. Δ is this of Λ, Θ of B
 --   or-one x       x, or 1 where x is 0: S'_r is or-one (S r)
 use Prim.Native.Nat.{ℕ, suc, _+_, _-_}
 use mathlib.Core.Bool.{Bool, not, cond, _&&_}
@@ -13,15 +13,15 @@ use Rattle.field.specs.Field.{F, 𝟏, _⊙_, isZero}
 use Rattle.series.specs.Sum.{sum}
 use Rattle.series.specs.Series.{Series}
 
--- a swap if d ≠ 0 and k ≥ 0
+-- FORMAT 8.4: an iteration with a discrepancy that is not 0 is a swap, k being 0 at least
 unfoldable pub swaps : F → ℤ → Bool
 swaps d k = not (isZero d) && nonNeg k
 
--- k becomes −k−1 at a swap
+-- FORMAT 8.4: at a swap
 abbrev pub k-swap : ℤ → ℤ
 k-swap k = negℤ k -ℤ pos 1
 
--- and k+1 at a hold
+-- FORMAT 8.4: at a hold
 abbrev pub k-hold : ℤ → ℤ
 k-hold k = k +ℤ pos 1
 

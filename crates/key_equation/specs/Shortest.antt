@@ -6,7 +6,7 @@
 --   c S r                γ·Λ_0 of the measure
 --   Solution S r σ ω e   σ and ω solve the key equation of S below r with length e
 --
--- Proved: the invariant of the measure; k and the length of document 01 are those of L; the measure's Λ and P are a solution of length L;
+-- Proved: the invariant of the measure; FORMAT's k and length are those of L; Λ and P are a solution of length L;
 -- no solution is shorter (shortest); a solution that is not too long is a multiple of Λ and P (unique).
 use Prim.Native.Nat.{ℕ, zero, suc, _+_, _-_, _≤_, _<_}
 use mathlib.Core.Path.{_≡_, sym, ap, _∙_, subst}

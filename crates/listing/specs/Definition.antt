@@ -1,4 +1,4 @@
--- The lines of the printed list: document 01, "The card and its printed list". A text is the list of its bytes, in ASCII.
+-- The lines of the printed list: FORMAT 9.4. A text is the list of its bytes, in ASCII.
 --
 --   ascii s                the bytes of s
 --   decimal n              n in decimal digits, the first of which is zero only if n is
@@ -33,19 +33,19 @@ digits (suc k) n = cond (ltb n 10) (glyph n ∷ []) (digits k (n / 10) ++ (glyph
 abbrev pub decimal : ℕ → List ℕ
 decimal n = digits n n
 
--- "The program prints `blocks N`"
+-- FORMAT 9.4: `blocks N`
 abbrev pub blocks-line : ℕ → List ℕ
 blocks-line n = ascii "blocks " ++ decimal n ++ ascii "\n"
 
--- "then for each whole block its number and `ok`, last stage, changed bytes"
+-- FORMAT 9.4: `I ok R C`, with the number of the block, the last stage entered and the number of changed bytes
 abbrev pub ok-line : ℕ → ℕ → ℕ → List ℕ
 ok-line i r c = decimal i ++ ascii " ok " ++ decimal r ++ ascii " " ++ decimal c ++ ascii "\n"
 
--- "or `refused` and the refusal number (no stage)"
+-- FORMAT 9.4: `I refused Q`, without a stage
 abbrev pub refused-line : ℕ → ℕ → List ℕ
 refused-line i q = decimal i ++ ascii " refused " ++ decimal q ++ ascii "\n"
 
--- "A refused profile or card prints `card refused` and the number."
+-- FORMAT 9.4: `card refused Q`
 abbrev pub card-line : ℕ → List ℕ
 card-line q = ascii "card refused " ++ decimal q ++ ascii "\n"
 

@@ -4,37 +4,42 @@
 --
 -- Proved: it is so of an accepted fetch; the data positions are in the block; they are some.
 use Prim.Native.Nat.{ℕ, zero, suc, _+_, _-_, _*_, _≤_, _<_}
-use mathlib.Core.Path.{_≡_, refl, ap, ap₂}
+use mathlib.Core.Path.{_≡_, refl, ap, ap₂, _∙_, subst}
 use mathlib.Core.Bool.{false}
 use mathlib.Core.List.{List, [], _∷_}
 use native.Mathlib.Nat.{mul-le-mul-right, suc-mul}
 use native.Mathlib.Numerals.{add-one}
 use native.Mathlib.Omega.{arith}
 use borrow.Author.Tests.{ltb-true, eqb-true}
-use lib.Dec.{ltb, eqb}
 use lib.ListN.{length, take, drop, length-drop}
 use Rattle.profile.specs.declared.Profile.{Profile}
-use Rattle.profile.specs.declared.Refusal.the-variants.{InputSize, Subword}
 use Rattle.profile.specs.declared.Parsed.the-variants.{Accepted}
-use Rattle.profile.specs.Definition.{profile-of, ask, block-size, checks}
-use Rattle.profile.specs.Laws.{ask-yes}
-use Rattle.profile.specs.Valid.{profile-read, profile-valid, checks-below}
-use Rattle.profile.specs.FetchDefinition.{fetching, between, part, empty}
+use Rattle.profile.specs.Definition.{block-size, checks}
+use Rattle.profile.specs.declared.questions.Caller.the-variants.{Fetch}
+use Rattle.profile.specs.Questions.{read, lent, fetching}
+use Rattle.profile.specs.QuestionsLaws.{asked-yes}
+use Rattle.profile.specs.Valid.{asked-valid, checks-below}
+use Rattle.profile.specs.FetchDefinition.{between, part, empty}
 
 pub record Within (p : Profile) (s i : ℕ) : Type 0 where
   pub subword : i < p .subwords
   pub some : checks p i < p .length
   pub size : s ≡ block-size p
 
+pub fetching-below : (b : List ℕ) (s i : ℕ) (p : Profile) → fetching b s i ≡ Accepted p → i < p .subwords
+fetching-below b s i p e =
+    let (same, (_, (_, (_, (_, (_, (_, (_, (_, (below, _)))))))))) = asked-yes Fetch (lent b s 0 i) (read b) p e in
+    subst (λ q. i < q .subwords) same (ltb-true i (read b .subwords) below)
+
 -- n is a byte
 pub accepted : (b : List ℕ) (s i : ℕ) (p : Profile) → fetching b s i ≡ Accepted p → p .length ≤ 255 → Within p s i
 accepted b s i p e small =
-    let (e1, below) = ask-yes (λ p. ltb i (p .subwords)) Subword (ask (λ p. eqb s (block-size p)) InputSize (profile-of b)) p e in
-    let (e2, size) = ask-yes (λ p. eqb s (block-size p)) InputSize (profile-of b) p e1 in
+    let (same, (_, (_, (_, (_, (_, (_, (size, _)))))))) = asked-yes Fetch (lent b s 0 i) (read b) p e in
+    let valid = asked-valid Fetch (lent b s 0 i) (read b) p e (rw (ap (λ q. q .length) same) small) in
     record {
-      subword = ltb-true i (p .subwords) below;
-      some = checks-below p (profile-valid b p e2 (rw (ap (λ q. q .length) (profile-read b p e2)) small)) i;
-      size = eqb-true s (block-size p) size;
+      subword = fetching-below b s i p e;
+      some = checks-below p valid i;
+      size = eqb-true s (block-size (read b)) size ∙ ap block-size same;
     }
 
 -- ---- parts

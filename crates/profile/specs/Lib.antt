@@ -1,5 +1,7 @@
--- Definition is what the promises speak of.
+-- Definition and Questions are what the promises speak of.
 pub mod Definition
+pub mod Questions
+pub mod QuestionsLaws
 pub mod Laws
 pub mod Valid
 pub mod Samples

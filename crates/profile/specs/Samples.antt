@@ -1,24 +1,51 @@
--- Document 01's samples of profiles, by computation.
+-- Samples of profiles, by computation: FORMAT 10.2. The numbers that each caller asks by stand below.
+--
+--   numbers c    the numbers of the questions that the caller c asks, in their order
 use mathlib.Core.Path.{_≡_, refl}
-use mathlib.Core.List.{[], _∷_}
+use Prim.Native.Nat.{ℕ}
+use mathlib.Core.List.{List, [], _∷_, map}
 use Rattle.profile.specs.declared.Refusal.the-variants.{Capabilities, Length}
 use Rattle.profile.specs.declared.Parsed.the-variants.{Accepted, Refused}
-use Rattle.profile.specs.Definition.{read, profile-of, data-size}
+use Rattle.profile.specs.declared.questions.Caller.{Caller}
+use Rattle.profile.specs.declared.questions.Caller.the-variants.{Encoder, Decoder, Fetch, Card}
+use Rattle.profile.specs.Definition.{number-of, data-size}
+use Rattle.profile.specs.Questions.{Question, questions-of, asked, read, profile-of}
 
--- "n=4 with t1=2 gives 5, n=5 passes"
-short : profile-of (2 ∷ (1 ∷ (4 ∷ (1 ∷ (2 ∷ (0 ∷ (0 ∷ []))))))) ≡ Refused Length
+-- n must be above 2 × tv, which is 4
+short : profile-of (2 ∷ 1 ∷ 4 ∷ 1 ∷ 2 ∷ 0 ∷ 0 ∷ []) ≡ Refused Length
+unfolding asked
 short = refl
 
-long : profile-of (2 ∷ (1 ∷ (5 ∷ (1 ∷ (2 ∷ (0 ∷ (0 ∷ []))))))) ≡ Accepted (read (2 ∷ (1 ∷ (5 ∷ (1 ∷ (2 ∷ (0 ∷ (0 ∷ []))))))))
+long : profile-of (2 ∷ 1 ∷ 5 ∷ 1 ∷ 2 ∷ 0 ∷ 0 ∷ []) ≡ Accepted (read (2 ∷ 1 ∷ 5 ∷ 1 ∷ 2 ∷ 0 ∷ 0 ∷ []))
+unfolding asked
 long = refl
 
--- "strength 24 passes, 25 gives 4"
-strong : profile-of (8 ∷ (3 ∷ (255 ∷ (14 ∷ (16 ∷ (18 ∷ (24 ∷ []))))))) ≡ Accepted (read (8 ∷ (3 ∷ (255 ∷ (14 ∷ (16 ∷ (18 ∷ (24 ∷ []))))))))
+-- the last capability is at most 24
+strong : profile-of (8 ∷ 3 ∷ 255 ∷ 14 ∷ 16 ∷ 18 ∷ 24 ∷ []) ≡ Accepted (read (8 ∷ 3 ∷ 255 ∷ 14 ∷ 16 ∷ 18 ∷ 24 ∷ []))
+unfolding asked
 strong = refl
 
-too-strong : profile-of (8 ∷ (3 ∷ (255 ∷ (14 ∷ (16 ∷ (18 ∷ (25 ∷ []))))))) ≡ Refused Capabilities
+too-strong : profile-of (8 ∷ 3 ∷ 255 ∷ 14 ∷ 16 ∷ 18 ∷ 25 ∷ []) ≡ Refused Capabilities
+unfolding asked
 too-strong = refl
 
--- "profile 8 3 255 14 16 18 24 has data size 1784"
-size : data-size (read (8 ∷ (3 ∷ (255 ∷ (14 ∷ (16 ∷ (18 ∷ (24 ∷ [])))))))) ≡ 1784
+-- the data size of a block of 2040 symbols
+size : data-size (read (8 ∷ 3 ∷ 255 ∷ 14 ∷ 16 ∷ 18 ∷ 24 ∷ [])) ≡ 1784
 size = refl
+
+-- ---- who asks which question, in which order: FORMAT 4.14
+
+abbrev numbers : Caller → List ℕ
+numbers c = map (λ q. number-of (q .refusal)) (questions-of c)
+
+encoder-asks : numbers Encoder ≡ 1 ∷ 2 ∷ 3 ∷ 4 ∷ 5 ∷ 6 ∷ 7 ∷ []
+encoder-asks = refl
+
+decoder-asks : numbers Decoder ≡ 1 ∷ 2 ∷ 3 ∷ 4 ∷ 5 ∷ 6 ∷ 7 ∷ []
+decoder-asks = refl
+
+fetch-asks : numbers Fetch ≡ 1 ∷ 2 ∷ 3 ∷ 4 ∷ 5 ∷ 6 ∷ 10 ∷ []
+fetch-asks = refl
+
+card-asks : numbers Card ≡ 1 ∷ 2 ∷ 3 ∷ 4 ∷ 5 ∷ []
+card-asks = refl

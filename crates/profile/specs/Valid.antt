@@ -2,24 +2,29 @@
 --
 --   Valid p    the profile p passes questions 2 to 5
 --
--- Proved: an accepted profile is the one that was judged, and valid; capabilities rise, to 24 at most; subwords with a smaller number have more check symbols,
--- each has at least 2 t0, at most 48 and fewer than n; the data size counts the data positions, so data symbols have numbers below it.
+-- Proved: a profile that is admitted is valid, and the sizes are right (writing-passed, reading-passed; reading-admitted says the
+-- converse); capabilities rise, to 24 at most; subwords with a smaller number have more check
+-- symbols, each has at least 2 t0, at most 48 and fewer than n; the data size counts the data positions, so data symbols have
+-- numbers below it.
 use Prim.Native.Nat.{ℕ, zero, suc, _+_, _-_, _*_, _≤_, _<_}
-use mathlib.Core.Path.{_≡_, refl, _∙_, subst}
+use mathlib.Core.Path.{_≡_, refl, sym, ap, _∙_, subst}
 use mathlib.Core.Bool.{Bool, true, false, cond, and-eq-true-iff}
 use mathlib.Core.List.{List}
 use native.Mathlib.Nat.{zero-mul, suc-mul, add-zero, add-suc, sub-zero}
 use native.Mathlib.Decide.{decLt}
 use native.Mathlib.Omega.{arith}
-use borrow.Author.Tests.{leb-true, ltb-true, le-leb, lt-ltb, le-ltb}
-use lib.Dec.{leb, eqb}
-use lib.ListN.{length, getD}
+use borrow.Author.Tests.{leb-true, ltb-true, eqb-true, le-leb, lt-ltb, le-ltb, eq-eqb}
+use lib.Dec.{leb}
+use lib.ListN.{getD}
 use Rattle.profile.specs.declared.Profile.{Profile}
-use Rattle.profile.specs.declared.Refusal.{Refusal}
-use Rattle.profile.specs.declared.Parsed.{Parsed}
-use Rattle.profile.specs.declared.Parsed.the-variants.{Accepted, Refused}
-use Rattle.profile.specs.Definition.{good-subwords, good-nested, good-step, good-capabilities, good-length, judged, read, profile-of}
-use Rattle.profile.specs.Definition.{capability, last, checks, capability-sum, data-size, data-start}
+use Rattle.profile.specs.declared.Parsed.the-variants.{Accepted}
+use Rattle.profile.specs.declared.questions.Caller.{Caller}
+use Rattle.profile.specs.declared.questions.Caller.the-variants.{Encoder, Decoder, Card}
+use Rattle.profile.specs.declared.questions.Lent.{Lent}
+use Rattle.profile.specs.Definition.{capability, last, checks, capability-sum, block-size, data-size, data-start}
+use Rattle.profile.specs.Questions.{good-step, good-capabilities, asked, read, lent, admitted}
+use Rattle.profile.specs.Questions.{profile-of, writing, reading-of}
+use Rattle.profile.specs.QuestionsLaws.{asked-yes, asked-all}
 
 pub record Valid (p : Profile) : Type 0 where
   pub subwords : (1 ≤ p .subwords) × (p .subwords ≤ 8)
@@ -31,11 +36,6 @@ pub record Valid (p : Profile) : Type 0 where
   pub length : (2 * last p < p .length) × (p .length ≤ 255)
 
 -- ---- from the questions
-
--- a question that lets a profile pass says yes
-passed : (good : Bool) (a : Parsed) (r : Refusal) (q : Profile) → cond good a (Refused r) ≡ Accepted q → (good ≡ true) × (a ≡ Accepted q)
-passed true a r q e = (refl, e)
-passed false a r q e = let z : _≡_ {A = ℕ} 0 1 = cc in absurd (omega arith)
 
 chosen : (b x y : Bool) → b ≡ true → cond b x y ≡ true → x ≡ true
 chosen true x y e h = h
@@ -68,26 +68,14 @@ module _ (p : Profile) (v : p .nested ≤ 3) (good : good-capabilities p ≡ tru
       leb-true (capability p (suc r)) (capability p (suc (suc r)))
       (chosen (leb (suc (suc r)) (p .nested)) _ _ (le-leb (suc (suc r)) (p .nested) h) (step (suc (suc r)) (omega arith)))
 
--- every question
-yes-to : (p q : Profile) → judged p ≡ Accepted q
-    → (good-subwords p ≡ true) × (good-nested p ≡ true) × (good-capabilities p ≡ true) × (good-length p ≡ true) × (p ≡ q)
-yes-to p q e =
-    let (g1, e1) = passed (good-subwords p) _ _ q e in
-    let (g2, e2) = passed (good-nested p) _ _ q e1 in
-    let (g3, e3) = passed (good-capabilities p) _ _ q e2 in
-    let (g4, e4) = passed (good-length p) _ _ q e3 in
-    (g1, g2, g3, g4, cc)
-
-pub judged-same : (p q : Profile) → judged p ≡ Accepted q → p ≡ q
-judged-same p q e = yes-to p q e .4
-
-judged-is : (p q : Profile) → judged p ≡ Accepted q → p .length ≤ 255 → Valid p
-judged-is p q e small =
-    let (g1, g2, g3, g4, s) = yes-to p q e in
+-- n is a byte
+pub asked-valid : (c : Caller) (l : Lent) (p q : Profile) → asked c l p ≡ Accepted q → p .length ≤ 255 → Valid q
+asked-valid c l p q e small =
+    let (same, (_, (g1, (g2, (g3, (g4, _)))))) = asked-yes c l p q e in
     let (m1, m2) = and-eq-true-iff (leb 1 (p .subwords)) _ .0 g1 in
     let (v1, v2) = and-eq-true-iff (leb (p .nested) 3) _ .0 g2 in
     let v : p .nested ≤ 3 = leb-true (p .nested) 3 v1 in
-    record {
+    subst Valid same (record {
       subwords = (leb-true _ _ m1, leb-true _ _ m2);
       nested = (v, ltb-true _ _ v2);
       first = leb-true 1 (p .t0) (step p v g3 0 (omega arith));
@@ -95,17 +83,35 @@ judged-is p q e small =
       rising = rises p v g3;
       most = leb-true (last p) 24 (parts p g3 .4);
       length = (ltb-true _ _ g4, small);
-    }
+    })
 
-pub judged-valid : (p q : Profile) → judged p ≡ Accepted q → p .length ≤ 255 → Valid q
-judged-valid p q e small = subst Valid (judged-same p q e) (judged-is p q e small)
+-- what the sizes are for whoever writes or reads a block; n is a byte
+module _ (b : List ℕ) (d o : ℕ) (p : Profile) where
+  pub writing-passed : writing b d o ≡ Accepted p → p .length ≤ 255 → Valid p × (d ≡ data-size p) × (o ≡ block-size p)
+  writing-passed e small =
+      let (same, (_, (_, (_, (_, (_, (input, (_, (output, _))))))))) = asked-yes Encoder (lent b d o 0) (read b) p e in
+      let valid = asked-valid Encoder (lent b d o 0) (read b) p e (rw (ap (λ q. q .length) same) small) in
+      (valid, eqb-true d (data-size (read b)) input ∙ ap data-size same, eqb-true o (block-size (read b)) output ∙ ap block-size same)
 
-pub profile-read : (b : List ℕ) (q : Profile) → profile-of b ≡ Accepted q → read b ≡ q
-profile-read b q e = judged-same (read b) q (passed (eqb (length b) 7) _ _ q e .1)
+  pub reading-passed : reading-of b d o ≡ Accepted p → p .length ≤ 255 → Valid p × (d ≡ block-size p) × (o ≡ block-size p)
+  reading-passed e small =
+      let (same, (_, (_, (_, (_, (_, (_, (input, (output, _))))))))) = asked-yes Decoder (lent b d o 0) (read b) p e in
+      let valid = asked-valid Decoder (lent b d o 0) (read b) p e (rw (ap (λ q. q .length) same) small) in
+      (valid, eqb-true d (block-size (read b)) input ∙ ap block-size same, eqb-true o (block-size (read b)) output ∙ ap block-size same)
 
--- the bytes of a profile: byte 2 is the length
-pub profile-valid : (b : List ℕ) (q : Profile) → profile-of b ≡ Accepted q → getD b 2 0 ≤ 255 → Valid q
-profile-valid b q e small = judged-valid (read b) q (passed (eqb (length b) 7) _ _ q e .1) small
+  -- the sizes are right
+  pub reading-admitted : profile-of b ≡ Accepted p → d ≡ block-size p → o ≡ block-size p → reading-of b d o ≡ Accepted p
+  reading-admitted e input output =
+      let (same, (y1, (y2, (y3, (y4, (y5, _)))))) = asked-yes Card (lent b 0 0 0) (read b) p e in
+      let block = ap block-size same in
+      asked-all Decoder (lent b d o 0) (read b)
+      (y1, (y2, (y3, (y4, (y5, (refl, (eq-eqb _ _ (input ∙ sym block), (eq-eqb _ _ (output ∙ sym block), (refl, tt)))))))))
+      ∙ ap Accepted same
+
+-- byte 2 of a profile is the length
+pub admitted-valid : (c : Caller) (b : List ℕ) (d o i : ℕ) (q : Profile) → admitted c b d o i ≡ Accepted q → getD b 2 0 ≤ 255
+    → Valid q
+admitted-valid c b d o i q e small = asked-valid c (lent b d o i) (read b) q e small
 
 -- ---- check symbols
 
@@ -170,7 +176,7 @@ module _ (p : Profile) (ok : Valid p) where
       let c : checks p (p .nested + k) ≡ 2 * p .t0 = checks-high p (p .nested + k) (omega arith) in
       rw add-suc (omega (arith, start-high k, c, checks-below (p .nested + k), suc-mul (p .nested + k) (p .length), suc-mul k (p .t0)))
 
-  -- "The data size" counts the data positions
+  -- the data size counts the data positions
   pub data-size-is : data-start p (p .subwords) ≡ data-size p
   data-size-is =
       let e : p .nested + (p .subwords - p .nested) ≡ p .subwords = omega arith in

@@ -3,41 +3,19 @@ ghost use mathlib.Core.Path.{_≡_};
 ghost use mathlib.Core.Bool.{false};
 ghost use lib.ListN.{length};
 ghost use Rattle.profile.specs.Definition.{answer-of};
-ghost use Rattle.profile.specs.FetchDefinition.{asked, fetching, part as Part, empty, refuses};
+ghost use Rattle.profile.specs.Questions.{fetching};
+ghost use Rattle.profile.specs.FetchDefinition.{part as Part, empty, refuses};
 ghost use Rattle.profile.specs.FetchLaws.{Within};
 use crate::Answer;
 use crate::Parsed;
 use crate::Profile;
-use crate::Refusal;
-
-// The questions about the block and the subword.
-fn judge(p: Profile, size: usize, i: usize) -> Parsed
-    ensures { λ a. ⌜ a ≡ asked size i (Parsed.Accepted p) ⌝ }
-{
-    if size != p.block_size() {
-        return Parsed::Refused(Refusal::InputSize);
-    }
-    if i >= p.subwords as usize {
-        return Parsed::Refused(Refusal::Subword);
-    }
-    Parsed::Accepted(p)
-}
-
-// All questions, one by one.
-fn questions(profile: &[u8], size: usize, i: usize) -> Parsed
-    ensures { λ a. ⌜ a ≡ fetching (now (profile .entry)) size i ⌝ }
-{
-    match crate::parse::parse(profile) {
-        Parsed::Accepted(p) => judge(p, size, i),
-        Parsed::Refused(q) => Parsed::Refused(q),
-    }
-}
+use crate::questions::Caller;
 
 // The number of a fetch.
 pub fn answer(profile: &[u8], block: &[u8], i: usize) -> Answer
     ensures { λ a. ⌜ a ≡ answer-of (fetching (now (profile .entry)) (length (now (block .entry))) i) ⌝ }
 {
-    match questions(profile, block.len(), i) {
+    match crate::questions::admit(Caller::Fetch, profile, block.len(), 0, i) {
         Parsed::Accepted(_) => Answer::Accepted,
         Parsed::Refused(q) => Answer::Refused(q),
     }
@@ -58,10 +36,12 @@ fn positions<'a>(p: Profile, block: &'a [u8], i: usize) -> &'a [u8]
 
 // The data of subword i, none if the fetch is refused.
 pub fn part<'a>(profile: &[u8], block: &'a [u8], i: usize) -> &'a [u8]
-    ensures { λ r. ⌜ now r ≡ Part (fetching (now (profile .entry)) (length (now (block .entry))) i) i (now (block .entry)) ⌝ }
-    ensures empty { λ r. ⌜ empty (now r) ≡ refuses (answer-of (fetching (now (profile .entry)) (length (now (block .entry))) i)) ⌝ }
+    ensures { λ r. ⌜ now r ≡
+        Part (fetching (now (profile .entry)) (length (now (block .entry))) i) i (now (block .entry)) ⌝ }
+    ensures empty { λ r. ⌜ empty (now r) ≡
+        refuses (answer-of (fetching (now (profile .entry)) (length (now (block .entry))) i)) ⌝ }
 {
-    match questions(profile, block.len(), i) {
+    match crate::questions::admit(Caller::Fetch, profile, block.len(), 0, i) {
         Parsed::Accepted(p) => positions(p, block, i),
         Parsed::Refused(_) => &block[0..0],
     }

@@ -1,6 +1,8 @@
-// Sizes and places, from a profile's bytes: of a block and its data, and where the data of a subword start. All are 0 if the profile is refused.
+// Sizes and places, from a profile's bytes: of a block and its data, and where the data of a subword start. All are 0 if the
+// profile is refused.
 ghost use mathlib.Core.Path.{_≡_};
-ghost use Rattle.profile.specs.Definition.{profile-of, block-size as BlockSize, data-size as DataSize};
+ghost use Rattle.profile.specs.Definition.{block-size as BlockSize, data-size as DataSize};
+ghost use Rattle.profile.specs.Questions.{profile-of};
 ghost use Rattle.profile.specs.LayoutDefinition.{if-accepted, start as Start};
 use crate::Parsed;
 use crate::Profile;
@@ -15,7 +17,7 @@ pub fn sizes_of(profile: &[u8]) -> Sizes
     ensures block { λ s. ⌜ s .block ≡ if-accepted BlockSize (profile-of (now (profile .entry))) ⌝ }
     ensures payload { λ s. ⌜ s .payload ≡ if-accepted DataSize (profile-of (now (profile .entry))) ⌝ }
 {
-    match crate::parse::parse(profile) {
+    match crate::questions::parse(profile) {
         Parsed::Accepted(p) => Sizes {
             block: p.block_size(),
             payload: p.data_size(),
@@ -37,7 +39,7 @@ fn start(p: Profile, i: u8) -> usize
 pub fn accepted_start(profile: &[u8], i: u8) -> usize
     ensures { λ n. ⌜ n ≡ if-accepted (λ p. Start p i) (profile-of (now (profile .entry))) ⌝ }
 {
-    match crate::parse::parse(profile) {
+    match crate::questions::parse(profile) {
         Parsed::Accepted(p) => start(p, i),
         Parsed::Refused(_) => 0,
     }

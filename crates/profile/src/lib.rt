@@ -1,7 +1,7 @@
-// Profiles: what the seven bytes mean, the refusals with their numbers, and the sizes that follow.
+// Profiles: what they hold, the refusals with their numbers, and the sizes that follow.
 pub mod fetch;
 pub mod layout;
-pub mod parse;
+pub mod questions;
 
 ghost use Prim.Native.Nat.{_-_, _*_, _<_, _^_};
 ghost use mathlib.Core.Path.{_≡_};
@@ -17,7 +17,7 @@ pub const NESTED: usize = 3;
 // The most positions of a word.
 pub const POSITIONS: usize = 255;
 
-// Document 01's m strips, v nested sums, n bytes a strip and strengths t0 to t3.
+// m subwords, v nested words, n symbols a subword, and the capabilities t0 to t3.
 pub struct Profile {
     pub subwords: u8,
     pub nested: u8,
@@ -54,7 +54,7 @@ pub enum Answer {
     Refused(Refusal),
 }
 
-// Document 01's number of a refusal.
+// The number of a refusal.
 pub fn number(r: Refusal) -> u8
     ensures { λ n. ⌜ n ≡ number-of r ⌝ }
 {
@@ -73,7 +73,7 @@ pub fn number(r: Refusal) -> u8
 }
 
 impl Answer {
-    // 0, or document 01's number of the refusal.
+    // 0, or the number of the refusal.
     pub fn number(self) -> u8
         ensures { λ n. ⌜ n ≡ answer-number self ⌝ }
     {

@@ -1,4 +1,4 @@
--- Document 01's proved samples: one table, and one theorem for the whole table.
+-- The proved samples of FORMAT 10.1, 10.3 and 10.9: one table, and one theorem for the whole table.
 --
 --   Sample     a sample, by its kind
 --   Claim s    what the sample says, in the words of the definitions
@@ -31,7 +31,8 @@ use Rattle.key_equation.specs.Run.{Factors, plain, scaled, joined, measure, fac
 use Rattle.key_equation.specs.Measure.{measure-below}
 use Rattle.key_equation.specs.Ends.{finish, plain-end, scaled-end, scaled-end-Λ, scaled-end-B}
 use Rattle.profile.specs.declared.Parsed.the-variants.{Accepted}
-use Rattle.profile.specs.Definition.{read, profile-of, block-size, data-size}
+use Rattle.profile.specs.Definition.{block-size, data-size}
+use Rattle.profile.specs.Questions.{asked, read, profile-of}
 use Rattle.code.specs.Word.{root, syndrome}
 use Rattle.code.specs.Definition.{subword, nested}
 use Rattle.code.specs.Encoding.{encoding, encoding-bytes}
@@ -56,7 +57,7 @@ Claim (plain-run S Λ B γ k) = finish plain (map of S ∷ []) .state ≡ record
 Claim (scaled-run S Λ B γ′) =
     (finish scaled (map of S ∷ []) .state .Λ ≡ bytes Λ) × (finish scaled (map of S ∷ []) .state .B ≡ bytes B) × (finish scaled (map of S ∷ []) .state .γ′ ≡ of γ′)
 
--- where the paper leaves γ or k out, the model's stands here
+-- P1 to P9 are the names that the customer gave them; where γ or k was left open, the model's stands here
 unfoldable pub samples : List Sample
 samples =
     product 2 128 29  -- P1

@@ -1,4 +1,4 @@
--- What settles a subword: document 01, "Staged decoding". No algorithm is mentioned here.
+-- What settles a subword: FORMAT 6.2 and 6.3. No algorithm is mentioned here.
 -- A pattern of changes is a word: a series of which the first n symbols are read. Of a subword's syndromes the first 2t are read.
 --
 --   Within t n e       the pattern e is within the capability t
@@ -17,11 +17,11 @@ use Rattle.series.specs.Word.{entry, weight}
 use Rattle.series.specs.First.{first}
 use Rattle.code.specs.Word.{syndrome}
 
--- "of at most t_r nonzero changes at places below n"
+-- FORMAT 6.3: t_r changes or fewer; 6.2: none of them 0, at places below n
 abbrev pub Within : ℕ → ℕ → Series → Type 0
 Within t n e = weight n e ≤ t
 
--- "whose S_j equal the strip's", "stage r looks at j < 2×t_r"
+-- FORMAT 6.3: .. and, for each j below 2 × t_r, the strip's S_j
 pub record Explains (t n : ℕ) (s e : Series) : Type 0 where
   pub within : Within t n e
   pub syndromes : (j : ℕ) → j < 2 * t → syndrome n e j ≡ s j
@@ -35,6 +35,6 @@ explains? t n s e = Dec·of-iff (to, from) (Dec·and (decLe (weight n e) t) (all
     from : Explains t n s e → Within t n e × ((j : ℕ) → j < 2 * t → syndrome n e j ≡ s j)
     from x = (x .within, x .syndromes)
 
--- "A strip is settled at stage r by the pattern .. It fails that stage exactly if there is no such pattern."
+-- FORMAT 6.3: if a pattern explains the strip, it settles it; if there is none, the strip fails this stage
 unfoldable pub settle : ℕ → ℕ → Series → Option (List F)
 settle t n s = first n (λ w. explains? t n s (entry w))

@@ -1,5 +1,5 @@
--- Document 01's sample with n = 26 and capability 1: changes of 1 at positions 0 and 1 settle as one change of 1 at position 25. As polynomials, the
--- pattern z^25 has the two syndromes of 1 + z.
+-- FORMAT 10.8, with n = 26 and capability 1: a subword that is 1 at positions 0 and 1, and 0 elsewhere, is settled by
+-- one change of 1 at position 25. As polynomials, the pattern z^25 has the two syndromes of 1 + z.
 use Prim.Native.Nat.{ℕ, zero, suc, _*_, _<_}
 use mathlib.Core.Path.{_≡_, refl, sym, ap, ap₂, _∙_}
 use mathlib.Core.Bool.{xor}

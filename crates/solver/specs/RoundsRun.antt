@@ -3,7 +3,7 @@
 --   syndromes-of bytes     the syndromes that a run is lent: at most 48
 --   rounds-of bytes ns     its rounds: cut from these to the lengths ns, a round taking what is left
 --   at-of f known p        where a run of the code is
---   Claimed f rounds k p   document 01's claim for a run in the form f that is at p
+--   Claimed f rounds k p   the agreement, FORMAT 8.15, for a run in the form f that is at p
 --   Ran f rounds k p       what `run` promises
 --
 -- Proved: where the code is where the run of the definitions is, the claim holds (ran).
@@ -57,7 +57,7 @@ Claimed Scaled rounds k p =
     ScaledAgrees (Run.iterations rounds k) (Run.so-far rounds k) (Run.measure (entry (Run.joined rounds)) (Run.iterations rounds k))
     (Run.factors (entry (Run.joined rounds)) (Run.iterations rounds k)) (Run.measure-swapped (entry (Run.joined rounds)) (Run.iterations rounds k)) p
 
--- What `run` promises: the run of the code is that of the definitions, and document 01's claim holds of it.
+-- What `run` promises: the run of the code is that of the definitions, and the agreement of FORMAT 8.15 holds of it.
 pub record Ran (f : Form) (rounds : List (List F)) (k : ℕ) (p : Progress) : Type 0 where
   pub form : p .solver .form ≡ f
   pub iterations : p .iterations ≡ Run.iterations rounds k

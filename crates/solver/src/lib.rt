@@ -16,7 +16,7 @@ use crate::plain::Plain;
 use crate::scaled::Scaled;
 use field::Gf;
 
-// Document 01's plain, ahead and scaled.
+// FORMAT 8: plain, ahead and scaled.
 pub enum Form {
     Plain,
     Lookahead,

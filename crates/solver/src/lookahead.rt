@@ -1,4 +1,5 @@
-// The lookahead form of the key-equation solver: document 003, Algorithm 2. Every scalar is held before the iteration that uses it.
+// The lookahead form of the key-equation solver, FORMAT 8.6 to 8.9: Algorithm 2 of the nested-solver paper. Scalars are
+// held for the next iteration.
 ghost use Prim.Native.Nat.{_+_, _-_};
 ghost use mathlib.Core.Path.{_≡_};
 ghost use mathlib.Core.Bool.{true};

@@ -1,4 +1,5 @@
-// The scaled form of the key-equation solver: document 01's text. Four products of a scalar and a polynomial serve every line of an iteration.
+// The scaled form of the key-equation solver: FORMAT 8.10 to 8.12. Four products of a scalar and a polynomial serve
+// every line of an iteration.
 ghost use Prim.Native.Nat.{ℕ, _+_, _-_};
 ghost use mathlib.Core.Path.{_≡_};
 ghost use mathlib.Core.Bool.{cond};
@@ -14,8 +15,8 @@ use field::Gf;
 use polynomial::product;
 use polynomial::syndromes::coefficient;
 
-// Λ, B, γ', the length L, Δ and Θ. After r iterations k is r - 2L, and the scalars are held for iteration r: with d the constant term of Δ,
-// g = S'_(r+1)/S'_r, ρ is γ' or 1 if d = 0, ξ is d, ρ_S is gρ and ξ_S is gξ.
+// Λ, B, γ', the length L, Δ and Θ. After r iterations k is r - 2L, and the five scalars of FORMAT 8.10 are held for
+// iteration r.
 pub struct Scaled {
     pub locator: [Gf; 49],
     pub auxiliary: [Gf; 49],

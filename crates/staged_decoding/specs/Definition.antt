@@ -1,8 +1,8 @@
--- Staged decoding as a function of the profile and the received block: document 01, "Staged decoding". No solver is mentioned here.
+-- Staged decoding as a function of the profile and the received block: FORMAT 6 and 7. No solver is mentioned here.
 -- A block is a series of which the first m × n symbols are read; the syndromes of a subword are a series, its row in the table, zero where not known.
 --
 --   count n b            how many numbers below n pass the test b; nth n b w: number w of them; total n f: f 0 + .. + f (n − 1)
---   Line                 what the report says of a subword: clean, or corrected (document 01's mended) with its count and stage
+--   Line                 what the report says of a subword: clean, or corrected (FORMAT's mended) with count and stage
 --   Progress             the block as corrected so far, the lines of the subwords that are settled, the rows of syndromes
 --   start p y            the progress before stage 0, y being received
 --   found p r g i        the pattern that settles subword i at stage r; none if there is none, or it was settled before
@@ -66,7 +66,7 @@ pub data Line : Type 0 where
   clean : Line
   corrected : (count stage : ℕ) → Line
 
--- settled at stage r by k changes: "Clean is the empty pattern at stage 0."
+-- settled at stage r by k changes. FORMAT 7.2: clean is a strip that was settled at stage 0 by the empty pattern
 abbrev pub line-of : ℕ → ℕ → Line
 line-of r k = cond (eqb r 0 && eqb k 0) clean (corrected k r)
 
@@ -86,7 +86,7 @@ pub record Progress : Type 0 where
   pub line : ℕ → Option Line
   pub row : ℕ → Series
 
--- "For j < 2×t0, S_j of a strip is its received value at α^(j+1)"
+-- FORMAT 6.1: S_j of every strip, for j below 2 × t0, is that of the received strip
 unfoldable pub start : Profile → Series → Progress
 start p y = record { block = y; line = λ i. none; row = received p y (2 * capability p 0) }
 
@@ -106,8 +106,7 @@ unsettled p g = count (p .subwords) (open? g)
 unfoldable pub add : ℕ → ℕ → Series → Series → Series
 add n i e s = s ⊞ zpow (i * n) ⊠ e
 
--- "A strip is settled at stage r by the pattern of at most t_r nonzero changes at places below n whose S_j equal the strip's .. It fails that stage
--- exactly if there is no such pattern."
+-- FORMAT 6.3: the pattern that explains the strip settles it; if there is none, the strip fails this stage
 unfoldable pub found : Profile → ℕ → Progress → ℕ → Option (List F)
 found p r g i = cond (open? g i) (settle (capability p r) (p .length) (g .row i)) none
 
@@ -128,8 +127,8 @@ stage p r g = each (p .subwords) (step p r) g
 
 -- ---- a round
 
--- "for each j .. the S_j of the b strips (numbers i_0, i_1, ..) solve: sum over w of α^(i_w × l) × S_j of strip i_w equals the nested sum l's value
--- at α^(j+1), for l < b, in the block as mended so far"
+-- FORMAT 6.6: the S_j of the unsettled strips i_0 < i_1 < .. are the one solution of b equations, with the nested sums
+-- of the block as it stands then; α^(i_w) is node w
 unfoldable pub node : Profile → Progress → ℕ → F
 node p g w = pow α (nth (p .subwords) (open? g) w)
 
@@ -152,7 +151,7 @@ extend p a b g = record {
   row = λ i. cond (ltb i (p .subwords) && open? g i) (window a b (fresh p g i) (g .row i)) (g .row i);
 }
 
--- "for each j from 2×t_r to 2×t_(r+1)−1"
+-- FORMAT 6.6: S_j for j from 2 × t_r up to 2 × t_(r+1) − 1
 abbrev pub round : Profile → ℕ → Progress → Progress
 round p r g = extend p (2 * capability p r) (2 * capability p (suc r)) g
 
@@ -163,7 +162,8 @@ pub data Ending : Type 0 where
   settled : (r : ℕ) → Progress → Ending
   stopped : (r : ℕ) → Ending
 
--- "After stage r let b strips be unsettled. If b is 0, decoding is over. If b exceeds v−r, the answer is 8 with stage r. Else round r+1 follows"
+-- FORMAT 6.5: none unsettled, all is settled; more than v − r unsettled, decoding ends with number 8 and stage r;
+-- otherwise round r + 1 follows, and then stage r + 1
 abbrev pub after : Profile → ℕ → ℕ → Progress → Ending → Ending
 after p left r g later = cond (eqb (unsettled p g) 0) (settled r g) (cond (ltb left (unsettled p g)) (stopped r) later)
 
@@ -183,7 +183,7 @@ unfoldable pub rounds-of : Profile → Series → ℕ → List (List F)
 rounds-of p s zero = round-of p s 0 ∷ []
 rounds-of p s (suc r) = rounds-of p s r ++ (round-of p s (suc r) ∷ [])
 
--- "for each mended strip, the stages it went through taken as rounds"; none for a clean one
+-- FORMAT 7.5: one round for each stage that a mended strip went through; none for a clean one
 abbrev pub line-rounds : Profile → Series → Line → List (List F)
 line-rounds p s clean = []
 line-rounds p s (corrected k r) = rounds-of p s r
@@ -214,13 +214,13 @@ pub data Outcome : Type 0 where
   failed : (stage : ℕ) → Outcome
   foreign : Outcome
 
--- document 01's numbers; 0 says that every question was answered by yes
+-- FORMAT 4.9 and 4.10; 0 says that every question was answered by yes
 abbrev pub outcome-number : Outcome → ℕ
 outcome-number (accepted s x) = 0
 outcome-number (failed r) = 8
 outcome-number foreign = 9
 
--- "Does staged decoding settle every strip? .. Is the settled block a codeword?"
+-- FORMAT 4.9 and 4.10: are all strips settled when staged decoding ends? Is the block then a codeword?
 abbrev pub judged : Profile → Ending → Outcome
 judged p (stopped r) = failed r
 judged p (settled r g) = cond (holds (codeword? p (g .block))) (accepted (g .block) (report p r g)) foreign
@@ -230,6 +230,6 @@ decode p y = judged p (stages p (p .nested) 0 (start p y))
 
 -- ---- what counts mean
 
--- "the number of its places where received and mended byte differ"
+-- FORMAT 7.3: the number of places at which the received strip and the mended strip differ
 unfoldable pub differences : Profile → Series → Series → ℕ → ℕ
 differences p s t i = count (p .length) (λ q. not (holds (subword (p .length) s i q ≟ subword (p .length) t i q)))

@@ -1,4 +1,4 @@
--- What it takes to restore a written block: document 01, "Standard of the promises". The codeword c was written, and y received; the changes of a
+-- What it takes to restore a written block: FORMAT 6.11. The codeword c was written, and y received; the changes of a
 -- subword are its differences in c and y.
 --
 --   beyond p c y r      how many subwords have more than t_r changes

@@ -1,4 +1,4 @@
--- A written block is restored: document 01, "Standard of the promises".
+-- A written block is restored: FORMAT 6.11.
 --
 -- Proved: what was received comes back as the codeword that was written, if it is restorable (restoring, restoring-bytes); so it does if no subword
 -- has more than t0 changes (restoring-within). Where no mistake is made the outcome is never foreign (not-foreign).

@@ -1,6 +1,6 @@
 -- Laws of a round.
 --
---   Meets p g j S   the values S solve document 01's system for S_j of the unsettled subwords
+--   Meets p g j S   the values S solve the equations of FORMAT 6.6 for S_j of the unsettled subwords
 --
 -- Proved: what stands in a window and around it (window-in, window-low, window-high), and one place more (window-none, window-more); only the rows of
 -- unsettled subwords go on (extend-open, extend-settled, extend-past), syndrome after syndrome (extend-none, extend-more), and no syndrome below
@@ -98,7 +98,7 @@ extend-more p a b g i h e l =
 
 -- ---- the system
 
--- "sum over w of α^(i_w × l) × S_j of strip i_w equals the nested sum l's value at α^(j+1), for l < b"
+-- FORMAT 6.6: the b equations, for l from 0 to b − 1
 abbrev pub Meets : Profile → Progress → ℕ → (ℕ → F) → Type 0
 Meets p g j S =
     (l : ℕ) → l < unsettled p g
@@ -114,7 +114,7 @@ module _ (p : Profile) (ok : Valid p) (g : Progress) where
       power-inj _ _ (omega (arith, ok .subwords .1)) (omega (arith, ok .subwords .1)) e in
       omega arith
 
-  -- document 01's powers are the system's
+  -- the powers of FORMAT 6.6 are the system's
   powers : (S : ℕ → F) (l : ℕ)
       → sum (unsettled p g) (λ w. pow (node p g w) l ⊙ S w) ≡ sum (unsettled p g) (λ w. pow α (nth (p .subwords) (open? g) w * l) ⊙ S w)
   unfolding node

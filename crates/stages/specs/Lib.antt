@@ -1,4 +1,5 @@
--- View is what the promises speak of; the others prove them: lines in an array, a stage, from stage to stage.
+-- Report and View are what the promises speak of; the others prove them: lines in an array, a stage, from stage to stage.
+pub mod Report
 pub mod View
 pub mod Lines
 pub mod Stage

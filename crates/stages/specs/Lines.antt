@@ -1,14 +1,16 @@
 -- Lines in an array, and the progress that they show.
 --
--- Proved: what stands at a place (has, has-set, has-other); eight lines at their start (started); what lines say and show after a store (says-set,
--- shown-set).
-use Prim.Native.Nat.{ℕ, zero, suc, _≤_, _<_}
+-- Proved: what stands at a place (has, has-same, has-other); eight lines at their start (started);
+-- what lines say and show after a store (says-same, says-other, shown-set); the changed symbols are counted line by line
+-- (changed-none, changed-more).
+use Prim.Native.Nat.{ℕ, zero, suc, _+_, _≤_, _<_}
 use mathlib.Core.Path.{_≡_, refl, sym, ap, _∙_, fun-ext, subst}
 use mathlib.Core.Logic.{_≢_}
 use mathlib.Core.Bool.{Bool, true, cond}
 use mathlib.Core.List.{List, [], _∷_, map}
 use mathlib.Core.Option.{none, some}
 use native.Mathlib.Decide.{decLt, ℕ-discrete}
+use native.Mathlib.Numerals.{add-one}
 use native.Mathlib.Omega.{arith}
 use lib.ListN.{length, getD, set, replicate, length-set, length-map, length-replicate, getD-replicate, List·getD-map, List·getD-eq-default}
 use lib.Seq.{getD-set-same, getD-set-other}
@@ -17,12 +19,12 @@ use Rattle.solver.specs.declared.Solver.{Solver}
 use Rattle.solver.specs.Solver.{form-of, Is}
 use Rattle.solver.specs.ContinuationDefinition.{Ended, ended-start}
 use Rattle.staged_decoding.specs.Definition as staged
-use Rattle.staged_decoding.specs.Definition.{put}
+use Rattle.staged_decoding.specs.Definition.{put, total, count-of}
 use Rattle.staged_decoding.specs.Stage.{put-same, put-other}
-use Rattle.stages.specs.declared.subword.Verdict.the-variants.{Clean}
-use Rattle.stages.specs.declared.subword.Line.{Line}
-use Rattle.stages.specs.SubwordDefinition.{verdict-of}
-use Rattle.stages.specs.View.{says, Has, shown, Started}
+use Rattle.stages.specs.declared.report.Verdict.the-variants.{Clean}
+use Rattle.stages.specs.declared.report.Line.{Line}
+use Rattle.stages.specs.Report.{verdict-of, says, Has, Started}
+use Rattle.stages.specs.View.{shown}
 
 -- ---- places of a list
 
@@ -102,3 +104,14 @@ put-stay k x f e = fun-ext (λ i. go i (ℕ-discrete i k))
     go : (i : ℕ) → Dec (i ≡ k) → put k x f i ≡ f i
     go i (yes q) = rw q (put-same k x f ∙ sym e)
     go i (no n) = put-other k x f i n
+
+-- ---- counts
+
+pub changed-none : (lines : List Line) → 0 ≡ total 0 (λ i. count-of (says lines i))
+unfolding total
+changed-none lines = refl
+
+pub changed-more : (lines : List Line) (sum i n : ℕ) (d : Line) → i < length lines → sum ≡ total i (λ i. count-of (says lines i))
+    → n ≡ count-of (verdict-of (getD lines i d .verdict)) → sum + n ≡ total (i + 1) (λ i. count-of (says lines i))
+unfolding total
+changed-more lines sum i n d h e q = rw (add-one i, e, q, says-at lines i (getD lines i d) (has lines i d h))

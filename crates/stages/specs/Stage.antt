@@ -30,11 +30,12 @@ use Rattle.staged_decoding.specs.Definition as staged
 use Rattle.staged_decoding.specs.Definition.{Progress, each, step, stage}
 use Rattle.staged_decoding.specs.Stage.{progress-equal, each-none, each-more, put-same, put-other, found-open, found-settled, step-none, step-some}
 use Rattle.stages.specs.AttemptDefinition.{Ready}
-use Rattle.stages.specs.declared.subword.Line.{Line}
+use Rattle.stages.specs.declared.report.Line.{Line}
 use Rattle.stages.specs.declared.subword.StagedSubword.{StagedSubword}
-use Rattle.stages.specs.SubwordDefinition.{verdict-of, Took, Stayed}
+use Rattle.stages.specs.Report.{verdict-of, says, Has}
+use Rattle.stages.specs.SubwordDefinition.{Took, Stayed}
 use Rattle.stages.specs.declared.Staged.{Staged}
-use Rattle.stages.specs.View.{says, Has, shown, view, so-far, Kept, Before, Came}
+use Rattle.stages.specs.View.{shown, view, so-far, Kept, Before, Came}
 use Rattle.stages.specs.Lines.{any-default, has, has-same, has-other, says-at, says-other, shown-set, put-stay}
 
 abbrev pub next : (r k i : ℕ) → ℕ

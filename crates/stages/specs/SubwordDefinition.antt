@@ -1,6 +1,5 @@
 -- A stage of one subword, and what it leaves.
 --
---   verdict-of v              what a verdict says
 --   Offered p f r S a         what an attempt has brought
 --   Stayed l b c q            a subword that is settled stays as it is
 --   Took p f r i S w b c q    what stage r makes of subword i that was pending, w being the pattern that settles it, if any
@@ -17,17 +16,11 @@ use Rattle.series.specs.Word.{entry, weight}
 use Rattle.profile.specs.declared.Profile.{Profile}
 use Rattle.solver.specs.declared.Form.{Form}
 use Rattle.solver.specs.ContinuationDefinition.{Ended}
-use Rattle.staged_decoding.specs.Definition as staged
 use Rattle.staged_decoding.specs.Definition.{add, line-of, line-rounds, rounds-of}
 use Rattle.stages.specs.declared.attempt.Attempted.{Attempted}
-use Rattle.stages.specs.declared.subword.Verdict.{Verdict}
-use Rattle.stages.specs.declared.subword.Verdict.the-variants.{Clean, Corrected}
-use Rattle.stages.specs.declared.subword.Line.{Line}
+use Rattle.stages.specs.declared.report.Line.{Line}
 use Rattle.stages.specs.declared.subword.StagedSubword.{StagedSubword}
-
-abbrev pub verdict-of : Verdict → staged.Line
-verdict-of Clean = staged.clean
-verdict-of (Corrected k r) = staged.corrected k r
+use Rattle.stages.specs.Report.{verdict-of}
 
 -- what an attempt has brought: with no change at stage 0 there would have been no attempt
 pub record Offered (p : Profile) (f : Form) (r : ℕ) (S : Series) (a : Attempted) : Type 0 where

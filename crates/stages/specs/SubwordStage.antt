@@ -37,9 +37,10 @@ use Rattle.staged_decoding.specs.Definition.{add, line-of, line-rounds, rounds-
 use Rattle.staged_decoding.specs.Stage.{line-of-corrected, line-of-first}
 use Rattle.stages.specs.declared.attempt.Attempted.{Attempted}
 use Rattle.stages.specs.AttemptDefinition.{Ready}
-use Rattle.stages.specs.declared.subword.Verdict.{Verdict}
-use Rattle.stages.specs.declared.subword.Verdict.the-variants.{Clean, Corrected}
-use Rattle.stages.specs.SubwordDefinition.{verdict-of, Offered, Took}
+use Rattle.stages.specs.declared.report.Verdict.{Verdict}
+use Rattle.stages.specs.declared.report.Verdict.the-variants.{Clean, Corrected}
+use Rattle.stages.specs.Report.{verdict-of}
+use Rattle.stages.specs.SubwordDefinition.{Offered, Took}
 
 -- ---- patterns
 

@@ -1,20 +1,17 @@
 -- How the code's values show staged decoding (Definition of staged_decoding).
 --
---   says lines i              what line i says; clean where there is no such line
 --   view b pending lines t    the progress that a block, flags, lines and a table of syndromes show
 --   waiting p pending         how many subwords are pending
---   Has lines i l             the line l stands at i
 --   so-far p i s S o          the rounds that a solver went through, o being what its subword's line is and s the next stage if it has none
 --   Kept p f next g lines     the solvers of the lines are in the form f at the end of these rounds; the lines that are no subword's say clean
 --   Before p f r g lines      so it is before stage r, and the rows are zero past that stage's syndromes
---   Started f lines           eight lines at their start
 --   Came p f r g b q t        after stage r of the progress g
 --   Extended p r b q t u      u is the table t after round r + 1
 --   Reached p f y b e         how decoding ended
 use Prim.Native.Nat.{ℕ, suc, _*_, _≤_, _<_}
 use mathlib.Core.Path.{_≡_}
 use mathlib.Core.Bool.{Bool, true, false, cond}
-use mathlib.Core.List.{List, [], map}
+use mathlib.Core.List.{List, []}
 use mathlib.Core.Option.{Option, none, some}
 use lib.Dec.{ltb}
 use lib.ListN.{length, getD}
@@ -32,18 +29,10 @@ use Rattle.staged_decoding.specs.Definition as staged
 use Rattle.staged_decoding.specs.Definition.{Progress, count, line-at, line-rounds, stage, round, start, stages, settled, stopped}
 use Rattle.stages.specs.AttemptDefinition.{earlier}
 use Rattle.extend.specs.LagrangeDefinition.{flag}
-use Rattle.stages.specs.declared.subword.Line.{Line}
-use Rattle.stages.specs.SubwordDefinition.{verdict-of}
+use Rattle.stages.specs.declared.report.Line.{Line}
+use Rattle.stages.specs.Report.{says, Has}
 use Rattle.stages.specs.declared.Staged.{Staged}
 use Rattle.stages.specs.declared.Ending.{Ending}
-
--- ---- lines
-
-unfoldable pub says : List Line → ℕ → staged.Line
-says lines i = getD (map (λ l. verdict-of (l .verdict)) lines) i staged.clean
-
-abbrev pub Has : List Line → ℕ → Line → Type 0
-Has lines i l = (i < length lines) × ((d : Line) → getD lines i d ≡ l)
 
 -- ---- progress
 
@@ -78,11 +67,6 @@ pub record Came (p : Profile) (f : Form) (r : ℕ) (g : Progress) (b : List ℕ)
   pub kept : Kept p f (λ _. suc r) (stage p r g) (q .lines)
 
 -- ---- rounds
-
-pub record Started (f : Form) (lines : List Line) : Type 0 where
-  pub long : length lines ≡ 8
-  pub solvers : (i : ℕ) (l : Line) → Has lines i l → Ended f [] (l .solver)
-  pub says : (i : ℕ) → says lines i ≡ staged.clean
 
 abbrev pub Extended : Profile → ℕ → List ℕ → List Bool → (t u : List (List Gf)) → Type 0
 Extended p r b pending t u = (lines : List Line) → view b pending lines u ≡ round p r (view b pending lines t)

@@ -39,9 +39,10 @@ use Rattle.staged_decoding.specs.Rounds.{rounds-cong}
 use Rattle.staged_decoding.specs.Course.{stages-over, stages-stop, stages-on}
 use Rattle.extend.specs.LagrangeDefinition.{flag}
 use Rattle.extend.specs.Definition.{Seen}
-use Rattle.stages.specs.declared.subword.Line.{Line}
+use Rattle.stages.specs.declared.report.Line.{Line}
 use Rattle.stages.specs.declared.Staged.{Staged}
-use Rattle.stages.specs.View.{says, Has, shown, view, waiting, so-far, Kept, Before, Came, Started, Shows, Reached}
+use Rattle.stages.specs.Report.{says, Has, Started}
+use Rattle.stages.specs.View.{shown, view, waiting, so-far, Kept, Before, Came, Shows, Reached}
 use Rattle.stages.specs.Lines.{any-default}
 use Rattle.stages.specs.Stage.{shown-no}
 

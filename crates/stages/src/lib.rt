@@ -1,7 +1,8 @@
 // Staged decoding of a block that is lent: subwords are corrected in place, stage after stage. What the promises speak of stands in
 // staged_decoding's specs/Definition.antt; how the values here show it, in specs/View.antt.
 mod attempt;
-pub mod subword;
+pub mod report;
+mod subword;
 
 ghost use Prim.Native.Nat.{_-_, _*_, _≤_, _<_};
 ghost use mathlib.Core.Path.{_≡_};
@@ -14,15 +15,13 @@ ghost use Rattle.block.specs.Parts.{Fits};
 ghost use Rattle.block.specs.Table.{table};
 ghost use Rattle.code.specs.Check.{received};
 ghost use Rattle.block.specs.CodewordDefinition.{Further};
-ghost use Rattle.stages.specs.View.{view, waiting, Before, Came, Started, Extended, Reached};
-use crate::subword::Line;
-use crate::subword::Verdict;
+ghost use Rattle.stages.specs.View.{view, waiting, Before, Came, Extended, Reached};
+use crate::report::Line;
 use field::Gf;
 use polynomial::SYNDROMES;
 use profile::Profile;
 use profile::SUBWORDS;
 use solver::Form;
-use solver::Solver;
 
 // All subwords after a stage.
 struct Staged {
@@ -97,18 +96,6 @@ fn follows(p: Profile, r: u8, pending: [bool; SUBWORDS]) -> bool
     b <= (p.nested - r) as usize
 }
 
-// Eight lines at their start.
-pub fn start(form: Form) -> [Line; SUBWORDS]
-    ensures { λ l. ⌜ Started form l ⌝ }
-{
-    let s = Solver::start(form);
-    let l = Line {
-        verdict: Verdict::Clean,
-        solver: s,
-    };
-    [l; SUBWORDS]
-}
-
 // The stages, up to the one after which every subword is settled or too many are not, from the received subwords' syndromes. A round goes by the table for the
 // further roots of nested words.
 pub fn run(
@@ -122,7 +109,8 @@ pub fn run(
     ensures { λ e. ⌜ Reached p form (bytes (now (block .entry))) (bytes (now (block .exit))) e ⌝ }
 {
     let mut table = syndromes;
-    let first = stage(p, 0, [true; SUBWORDS], start(form), table, block);
+    let fresh = crate::report::start(form);
+    let first = stage(p, 0, [true; SUBWORDS], fresh, table, block);
     let mut pending = first.pending;
     let mut lines = first.lines;
     let mut r: u8 = 0;

@@ -15,25 +15,16 @@ ghost use Rattle.settling.specs.Definition.{settle as Settle};
 ghost use Rattle.settle.specs.Answer.{answer};
 ghost use Rattle.staged_decoding.specs.Definition.{add, line-of};
 ghost use Rattle.stages.specs.AttemptDefinition.{Ready};
-ghost use Rattle.stages.specs.SubwordDefinition.{verdict-of, Offered, Took, Stayed};
+ghost use Rattle.stages.specs.Report.{verdict-of};
+ghost use Rattle.stages.specs.SubwordDefinition.{Offered, Took, Stayed};
 use crate::attempt::Attempted;
+use crate::report::Line;
+use crate::report::Verdict;
 use field::Gf;
 use polynomial::SYNDROMES;
 use profile::Profile;
 use solver::Form;
 use solver::Solver;
-
-// Document 01's clean, or mended with its count and stage.
-pub enum Verdict {
-    Clean,
-    Corrected(u8, u8),
-}
-
-// A subword's line in the report, with the last state of its solver: at its start if the subword is clean.
-pub struct Line {
-    pub verdict: Verdict,
-    pub solver: Solver,
-}
 
 // A subword after a stage. The verdict of one that is pending, not settled yet, says nothing.
 pub struct StagedSubword {

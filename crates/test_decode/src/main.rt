@@ -9,7 +9,7 @@
 // the last state of its solver.
 //
 // `stdout` holds the same lines from an independent model, and from an independent Reed-Solomon program (libfec) for the strips at the end.
-// tools/make_decode_vectors.py made both files.
+// tools/make_vectors makes both files.
 //
 // Standard input is the number of cases and the cases. A case is a byte, 1 for one with states; a byte with the size of the profile, and the profile;
 // the size of the block, and the block; the size of the output. These numbers have two bytes, the high byte first.
@@ -19,12 +19,12 @@ ghost use Prim.Native.Nat.{_≤_};
 ghost use mathlib.Core.Path.{_≡_};
 ghost use lib.ListN.{length};
 ghost use Rattle.io.specs.Counts.{Counts};
-use decoder::prepared::Report;
 use profile::Answer;
 use profile::Parsed;
 use profile::Profile;
 use profile::Refusal;
 use solver::Form;
+use stages::report::Report;
 use test_support::input;
 use test_support::print;
 

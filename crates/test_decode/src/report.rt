@@ -1,8 +1,8 @@
 // A report: the subwords' lines, and the states of their solvers.
 ghost use Prim.Native.Nat.{_≤_};
 use profile::Profile;
-use stages::subword::Line;
-use stages::subword::Verdict;
+use stages::report::Line;
+use stages::report::Verdict;
 use test_support::print;
 
 // How many of the eight lines are a subword's.

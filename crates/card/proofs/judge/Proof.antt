@@ -1,6 +1,10 @@
--- No tables are kept.
-use mathlib.Core.Path.{sym}
+-- The section is taken for the one that is known, and no tables are kept.
+use mathlib.Core.Path.{sym, ap, _∙_}
 use mathlib.Core.Bool.{true≢false}
+use native.Mathlib.Omega.{arith}
+use Rattle.card.specs.SectionDefinition.{good}
+use Rattle.card.specs.SectionLaws.{known-good}
+use Rattle.card.specs.PrintedWhole.{judges-known}
 use borrow.Author.Needs.{needs}
 use Rattle.card.proofs.judge.Statement.{statement}
 use Rattle.card.proofs.judge.Tie as tie
@@ -11,11 +15,15 @@ blank-requires c κs = search needs
 blank-requires-2 : tie.Need-blank-requires-2
 blank-requires-2 c κs = search needs
 
+known-requires : tie.Need-known-requires
+known-requires c κs = search needs
+
 judge-kept-requires : tie.Need-judge-kept-requires
-judge-kept-requires c κs = λ e. absurd (true≢false (sym e))
+judge-kept-requires c κs = ?
 
 returns : tie.Need-returns
-returns c = search needs
+returns c = ?
 
 pub judge-spec : {M : Type 1} → statement M
-judge-spec = tie.close (tie.spec blank-requires blank-requires-2 judge-kept-requires returns)
+judge-spec =
+    tie.close (tie.spec blank-requires blank-requires-2 known-requires judge-kept-requires returns)

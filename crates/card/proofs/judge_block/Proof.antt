@@ -15,7 +15,7 @@ block-or-end-requires c κs = search needs
 returns : tie.Need-returns
 returns c =
     let print = c .before .print .ensures in
-    (record { next = c .block-or-end .ensures; line = print .0 }, print .1 (c .before .before .before .before .before .before .pre .1))
+    (record { next = c .block-or-end .ensures; line = print .0 }, print .1)
 
 pub judge-block-spec : {M : Type 1} → statement M
 judge-block-spec =

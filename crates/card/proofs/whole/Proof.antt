@@ -2,9 +2,10 @@
 use mathlib.Core.Path.{sym, ap, _∙_}
 use mathlib.Core.Bool.{and-eq-true-iff}
 use native.Mathlib.Omega.{arith}
-use borrow.Author.Tests.{ltb-true, eq-eqb}
+use borrow.Author.Tests.{ltb-true}
 use Rattle.card.specs.SectionDefinition.{good, size}
 use Rattle.card.specs.SectionLaws.{takes-silent, takes-as}
+use Rattle.card.specs.BlockLineLaws.{fit}
 use Rattle.card.specs.PrintedStep.{whole}
 use Rattle.card.specs.Laws.{made-as, kept-as}
 use borrow.Author.Needs.{needs}
@@ -46,7 +47,7 @@ judge-block-requires c κs =
     let is = c .before .before .before .before .s2 .given .1 in
     let given = c .before .before .before .before .before .before .before in
     let (low, accepted) = and-eq-true-iff _ _ .0 (sym (ap good is) ∙ given .pre .0) in
-    (ltb-true _ _ low, and-eq-true-iff _ _ .1 (accepted, eq-eqb _ _ (given .pre .1 ∙ ap size is)), λ e. kept-as _ _ (sym is) (given .pre .2 e))
+    (ltb-true _ _ low, fit _ _ accepted (given .pre .1 ∙ ap size is) (search needs), λ e. kept-as _ _ (sym is) (given .pre .2 e))
 
 enum-told-3 : tie.Need-enum-told-3
 enum-told-3 c = search needs

@@ -1,15 +1,15 @@
 -- Refused, or read.
 use mathlib.Core.Path.{sym, ap, _∙_}
 use native.Mathlib.Omega.{arith}
+use Rattle.profile.specs.Valid.{reading-passed}
 use Rattle.decoder.specs.Definition.{judged}
-use Rattle.decoder.specs.PreparedLaws.{gives-refused, gives-as}
-use Rattle.decoder.specs.Laws.{passed}
+use Rattle.decoder.specs.Laws.{gives-refused, gives-as}
 use borrow.Author.Needs.{needs}
 use Rattle.decoder.proofs.decode.Statement.{statement}
 use Rattle.decoder.proofs.decode.Tie as tie
 
-questions-requires : tie.Need-questions-requires
-questions-requires c κs = search needs
+admit-requires : tie.Need-admit-requires
+admit-requires c κs = search needs
 
 enum-known-p : tie.Need-enum-known-p
 enum-known-p c = search needs
@@ -18,8 +18,8 @@ read-requires : tie.Need-read-requires
 read-requires c κs =
     let told = c .before .before in
     let given = c .before .before .before .before .before .before .before .before in
-    let yes = sym (c .before .before .before .before .questions .ensures) ∙ told .p .given .1 in
-    let (ok, input, output) = passed (given .args .profile .now) _ _ _ yes (omega arith) in
+    let yes = sym (c .before .before .before .before .admit .ensures) ∙ told .p .given .1 in
+    let (ok, input, output) = reading-passed (given .args .profile .now) _ _ _ yes (omega arith) in
     (record { valid = ok; size = input }, output ∙ sym input)
 
 enum-known-q : tie.Need-enum-known-q
@@ -35,7 +35,7 @@ returns : tie.Need-returns
 returns c =
     let told = c .before .before .before .before .before in
     let given = c .before .before .before .before .before .before .before .before .before .before .before in
-    let is = ap (λ a. judged a (given .args .input .now)) (sym (told .before .before .questions .ensures) ∙ told .p .given .1) in
+    let is = ap (λ a. judged a (given .args .input .now)) (sym (told .before .before .admit .ensures) ∙ told .p .given .1) in
     let read = c .before .before .read in
     let gives = gives-as (given .args .form) _ _ _ _ (read .result) is (read .ensures) in
     (gives .answer, (gives .block, gives .report))
@@ -47,7 +47,7 @@ returns-2 : tie.Need-returns-2
 returns-2 c =
     let told = c .before .before .before .before .before in
     let given = c .before .before .before .before .before .before .before .before .before .before .before in
-    let is = ap (λ a. judged a (given .args .input .now)) (sym (told .before .before .questions .ensures) ∙ told .q .given .1) in
+    let is = ap (λ a. judged a (given .args .input .now)) (sym (told .before .before .admit .ensures) ∙ told .q .given .1) in
     let refuse = c .before .before .refuse in
     let form = given .args .form in
     let refused = gives-refused form _ _ _ (refuse .result) (refuse .ensures .0) (refuse .ensures .1 .0) (refuse .ensures .1 .1) in
@@ -58,7 +58,7 @@ pub decode-spec : {M : Type 1} → statement M
 decode-spec =
     tie.close
     (tie.spec
-    questions-requires
+    admit-requires
     enum-known-p
     read-requires
     enum-known-q

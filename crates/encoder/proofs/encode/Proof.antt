@@ -3,13 +3,14 @@ use mathlib.Core.Path.{sym, ap, _∙_}
 use native.Mathlib.Omega.{arith}
 use Rattle.profile.specs.Definition.{answer-of}
 use Rattle.encoder.specs.Definition.{written}
-use Rattle.encoder.specs.Laws.{accepted, written-is}
+use Rattle.profile.specs.Valid.{writing-passed}
+use Rattle.encoder.specs.Laws.{written-is}
 use borrow.Author.Needs.{needs}
 use Rattle.encoder.proofs.encode.Statement.{statement}
 use Rattle.encoder.proofs.encode.Tie as tie
 
-questions-requires : tie.Need-questions-requires
-questions-requires c κs = search needs
+admit-requires : tie.Need-admit-requires
+admit-requires c κs = search needs
 
 enum-known-p : tie.Need-enum-known-p
 enum-known-p c = search needs
@@ -18,8 +19,8 @@ write-requires : tie.Need-write-requires
 write-requires c κs =
     let told = c .before .before in
     let given = told .before .before .before .before .before .before in
-    let yes = sym (told .before .before .questions .ensures) ∙ told .p .given .1 in
-    let (ok, input, output) = accepted (given .args .profile .now) _ _ _ yes (omega arith) in
+    let yes = sym (told .before .before .admit .ensures) ∙ told .p .given .1 in
+    let (ok, input, output) = writing-passed (given .args .profile .now) _ _ _ yes (omega arith) in
     (record { valid = ok; size = output }, input)
 
 enum-known-q : tie.Need-enum-known-q
@@ -35,8 +36,8 @@ returns : tie.Need-returns
 returns c =
     let told = c .before .before .before .before .before in
     let given = told .before .before .before .before .before .before in
-    let yes = sym (told .before .before .questions .ensures) ∙ told .p .given .1 in
-    let (ok, input, output) = accepted (given .args .profile .now) _ _ _ yes (omega arith) in (
+    let yes = sym (told .before .before .admit .ensures) ∙ told .p .given .1 in
+    let (ok, input, output) = writing-passed (given .args .profile .now) _ _ _ yes (omega arith) in (
       sym (ap answer-of yes),
       written-is _ ok _ _ _ _ yes (omega (arith, c .before .out .given, output)) (λ i. omega (arith, c .slice-known2 .given i))
           (c .before .before .write .ensures),
@@ -50,7 +51,7 @@ returns-2 c =
     let refuse = c .before .before .refuse in
     let told = c .before .before .before .before .before in
     let given = told .before .before .before .before .before .before in
-    let no = sym (told .before .before .questions .ensures) ∙ told .q .given .1 in (
+    let no = sym (told .before .before .admit .ensures) ∙ told .q .given .1 in (
       refuse .ensures .0 ∙ sym (ap answer-of no),
       refuse .ensures .1 ∙ sym (ap (λ a. written a (given .args .«data» .now) (given .args .out .now)) no),
     )
@@ -59,7 +60,7 @@ pub encode-spec : {M : Type 1} → statement M
 encode-spec =
     tie.close
     (tie.spec
-    questions-requires
+    admit-requires
     enum-known-p
     write-requires
     enum-known-q

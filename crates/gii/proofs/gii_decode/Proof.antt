@@ -2,7 +2,7 @@
 use mathlib.Core.Path.{ap, _∙_}
 use lib.ListN.{length}
 use Rattle.profile.specs.Definition.{answer-number}
-use Rattle.decoder.specs.PreparedDefinition.{answer-to}
+use Rattle.decoder.specs.Definition.{answer-to}
 use Rattle.decoder.specs.Definition.{reading}
 use Rattle.gii.specs.Laws.{numbers-filled}
 use borrow.Author.Needs.{needs}

@@ -2,7 +2,7 @@
 use mathlib.Core.Path.{sym, _∙_}
 use native.Mathlib.Omega.{arith}
 use lib.ListN.{length}
-use Rattle.profile.specs.FetchDefinition.{fetching}
+use Rattle.profile.specs.Questions.{fetching}
 use Rattle.gii.specs.Laws.{fetched-small, start-accepted, start-refused, part-stands}
 use borrow.Author.Needs.{needs}
 use Rattle.gii.proofs.gii_fetch_start.Statement.{statement}

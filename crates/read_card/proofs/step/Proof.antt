@@ -8,8 +8,8 @@ use Rattle.read_card.proofs.step.Tie as tie
 read-full-requires : tie.Need-read-full-requires
 read-full-requires c κs = search needs
 
-blank-requires : tie.Need-blank-requires
-blank-requires c κs = search needs
+blank-line-requires : tie.Need-blank-line-requires
+blank-line-requires c κs = search needs
 
 slice-reshare-prefix-judge-kept : tie.Need-slice-reshare-prefix-judge-kept
 slice-reshare-prefix-judge-kept c = search needs
@@ -40,7 +40,7 @@ step-spec =
     tie.close
     (tie.spec
     read-full-requires
-    blank-requires
+    blank-line-requires
     slice-reshare-prefix-judge-kept
     slice-aggregate-judge-kept
     judge-kept-requires

@@ -1,7 +1,7 @@
 -- What is answered and reported is what reading the block comes to.
 use Rattle.series.specs.Array.{bytes}
 use Rattle.staged_decoding.specs.Definition.{decode}
-use Rattle.decoder.specs.PreparedDefinition.{concluded}
+use Rattle.decoder.specs.Definition.{concluded}
 use Rattle.card.specs.BlockLineDefinition.{block-line}
 use Rattle.card.specs.BlockLineLaws.{printed-as, told-line}
 use borrow.Author.Needs.{needs}

@@ -1,7 +1,6 @@
 -- By the section.
-use mathlib.Core.Path.{refl}
-use native.Mathlib.Omega.{arith}
-use Rattle.card.specs.SectionLaws.{judges-as}
+use mathlib.Core.Path.{sym, ap, _∙_}
+use Rattle.card.specs.SectionDefinition.{good}
 use borrow.Author.Needs.{needs}
 use Rattle.card.proofs.section.good.Statement.{statement}
 use Rattle.card.proofs.section.good.Tie as tie
@@ -31,22 +30,22 @@ enum-told-4 : tie.Need-enum-told-4
 enum-told-4 c = search needs
 
 returns : tie.Need-returns
-returns c = judges-as (c .enum-told .given .1) (refl, λ _. omega arith)
+returns c = sym (ap good (c .enum-told .given .1))
 
 returns-2 : tie.Need-returns-2
-returns-2 c = judges-as (c .enum-told2 .given .1) (refl, λ _. omega arith)
+returns-2 c = sym (ap good (c .enum-told2 .given .1))
 
 returns-3 : tie.Need-returns-3
-returns-3 c = judges-as (c .before .before .s .given .1) (c .accepted .ensures .0, λ _. omega arith)
+returns-3 c = c .accepted .ensures ∙ sym (ap good (c .before .before .s .given .1))
 
 returns-4 : tie.Need-returns-4
-returns-4 c = judges-as (c .before .before .s2 .given .1) (c .numbered .ensures)
+returns-4 c = c .numbered .ensures ∙ sym (ap good (c .before .before .s2 .given .1))
 
 returns-5 : tie.Need-returns-5
-returns-5 c = judges-as (c .enum-told3 .given .1) (refl, λ _. omega arith)
+returns-5 c = sym (ap good (c .enum-told3 .given .1))
 
 returns-6 : tie.Need-returns-6
-returns-6 c = judges-as (c .enum-told4 .given .1) (refl, λ _. omega arith)
+returns-6 c = sym (ap good (c .enum-told4 .given .1))
 
 pub good-spec : {M : Type 1} → statement M
 good-spec =

@@ -1,6 +1,4 @@
 -- Below the number of blocks or not.
-use mathlib.Core.Path.{refl, sym}
-use mathlib.Core.Bool.{true≢false}
 use borrow.Author.Tests.{lt-ltb, le-ltb}
 use borrow.Author.Needs.{needs}
 use Rattle.card.proofs.section.numbered.Statement.{statement}
@@ -13,7 +11,7 @@ returns : tie.Need-returns
 returns c = rw (lt-ltb (c .before .before .args .i) (c .before .before .args .k) (c .before .if1 .taken)) (c .accepted .ensures)
 
 returns-2 : tie.Need-returns-2
-returns-2 c = rw (le-ltb (c .before .args .i) (c .before .args .k) (c .if1 .left)) (refl, λ e. absurd (true≢false (sym e)))
+returns-2 c = rw (le-ltb (c .before .args .i) (c .before .args .k) (c .if1 .left))
 
 pub numbered-spec : {M : Type 1} → statement M
 numbered-spec = tie.close (tie.spec accepted-requires returns returns-2)

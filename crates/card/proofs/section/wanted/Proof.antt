@@ -1,7 +1,7 @@
 -- The bytes of the section that is known.
 use mathlib.Core.Path.{ap, _∙_}
-use native.Mathlib.Omega.{arith}
-use Rattle.card.specs.SectionDefinition.{size}
+use Rattle.card.specs.SectionDefinition.{good, size}
+use Rattle.card.specs.SectionLaws.{known-good}
 use borrow.Author.Needs.{needs}
 use Rattle.card.proofs.section.wanted.Statement.{statement}
 use Rattle.card.proofs.section.wanted.Tie as tie
@@ -13,7 +13,9 @@ size-requires : tie.Need-size-requires
 size-requires c κs = search needs
 
 returns : tie.Need-returns
-returns c = (c .size .ensures ∙ ap size (c .before .known .ensures .0), omega (arith, c .size .ensures, c .before .known .ensures .1))
+returns c =
+    let known-is = c .before .known .ensures in
+    (c .size .ensures .0 ∙ ap size known-is, c .size .ensures .1 (ap good known-is ∙ known-good _))
 
 pub wanted-spec : {M : Type 1} → statement M
 wanted-spec = tie.close (tie.spec known-requires size-requires returns)

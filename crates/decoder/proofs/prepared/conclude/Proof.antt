@@ -2,7 +2,7 @@
 use mathlib.Core.Path.{refl, sym, _∙_}
 use native.Mathlib.Omega.{arith}
 use Rattle.profile.specs.Laws.{unless, meets}
-use Rattle.decoder.specs.PreparedLaws.{gives-unsettled, gives-foreign, gives-read}
+use Rattle.decoder.specs.Laws.{gives-unsettled, gives-foreign, gives-read}
 use borrow.Author.Needs.{needs}
 use Rattle.decoder.proofs.prepared.conclude.Statement.{statement}
 use Rattle.decoder.proofs.prepared.conclude.Tie as tie

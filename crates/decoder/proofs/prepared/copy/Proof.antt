@@ -4,7 +4,7 @@ use mathlib.Core.Path.{_≡_}
 use native.Mathlib.Omega.{arith}
 use lib.ListN.{length, getD, length-set}
 use lib.Seq.{ext-getD}
-use Rattle.decoder.specs.PreparedLaws.{copied-more}
+use Rattle.decoder.specs.Laws.{copied-more}
 use borrow.Author.Needs.{needs}
 use Rattle.decoder.proofs.prepared.copy.Statement.{statement}
 use Rattle.decoder.proofs.prepared.copy.Tie as tie

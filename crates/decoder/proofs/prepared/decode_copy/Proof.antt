@@ -4,7 +4,7 @@ use mathlib.Core.Path.{sym, ap, _∙_}
 use native.Mathlib.Omega.{arith}
 use Rattle.series.specs.Array.{bytes}
 use Rattle.code.specs.Check.{received}
-use Rattle.decoder.specs.PreparedLaws.{fits-same, reached-same, reached-subwords}
+use Rattle.decoder.specs.Laws.{fits-same, reached-same, reached-subwords}
 use borrow.Author.Needs.{needs}
 use Rattle.decoder.proofs.prepared.decode_copy.Statement.{statement}
 use Rattle.decoder.proofs.prepared.decode_copy.Tie as tie

@@ -4,7 +4,7 @@ use native.Mathlib.Omega.{arith}
 use lib.ListN.{length}
 use lib.Seq.{length-take-le}
 use Rattle.block.specs.Parts.{inside}
-use Rattle.decoder.specs.PreparedLaws.{gives-kept}
+use Rattle.decoder.specs.Laws.{gives-kept}
 use borrow.Author.Needs.{needs}
 use Rattle.decoder.proofs.prepared.read.Statement.{statement}
 use Rattle.decoder.proofs.prepared.read.Tie as tie

@@ -1,6 +1,6 @@
 -- A verdict by cases.
 use mathlib.Core.Path.{sym, ap}
-use Rattle.stages.specs.SubwordDefinition.{verdict-of}
+use Rattle.stages.specs.Report.{verdict-of}
 use Rattle.gii.specs.NumbersDefinition.{line-numbers}
 use borrow.Author.Needs.{needs}
 use Rattle.gii.proofs.numbers.line_numbers.Statement.{statement}

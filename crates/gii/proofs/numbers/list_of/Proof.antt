@@ -4,7 +4,7 @@ use mathlib.Core.Path.{_≡_}
 use mathlib.Core.List.{_++_}
 use native.Mathlib.Omega.{arith}
 use lib.ListN.{length, take}
-use Rattle.stages.specs.View.{says}
+use Rattle.stages.specs.Report.{says}
 use Rattle.gii.specs.NumbersDefinition.{lines-numbers}
 use Rattle.gii.specs.NumbersLaws.{lines-none, lines-more, lines-all}
 use borrow.Author.Needs.{needs}

@@ -8,8 +8,8 @@ use borrow.Author.Needs.{needs}
 use Rattle.profile.proofs.fetch.part.Statement.{statement}
 use Rattle.profile.proofs.fetch.part.Tie as tie
 
-questions-requires : tie.Need-questions-requires
-questions-requires c κs = search needs
+admit-requires : tie.Need-admit-requires
+admit-requires c κs = search needs
 
 enum-known-p : tie.Need-enum-known-p
 enum-known-p c = search needs
@@ -18,7 +18,7 @@ positions-requires : tie.Need-positions-requires
 positions-requires c κs =
     let y = c .before .before .before in
     let given = y .before .before .before .args in
-    accepted (given .profile .now) _ (given .i) _ (sym (y .questions .ensures) ∙ c .before .p .given .1) (omega arith)
+    accepted (given .profile .now) _ (given .i) _ (sym (y .admit .ensures) ∙ c .before .p .given .1) (omega arith)
 
 enum-told : tie.Need-enum-told
 enum-told c = search needs
@@ -37,7 +37,7 @@ returns c =
     let x = c .before .before in
     let y = x .before .before in
     let given = y .before .before .before .args in
-    let e = sym (x .p .given .1) ∙ y .questions .ensures in (
+    let e = sym (x .p .given .1) ∙ y .admit .ensures in (
       c .positions .ensures .0 ∙ ap (λ a. part a (given .i) (given .block .now)) e,
       c .positions .ensures .1 ∙ ap (λ a. refuses (answer-of a)) e,
     )
@@ -47,14 +47,14 @@ returns-2 c =
     let x = c .before in
     let y = x .before .before in
     let given = y .before .before .before .args in
-    let e = sym (x .enum-told .given .1) ∙ y .questions .ensures in
+    let e = sym (x .enum-told .given .1) ∙ y .admit .ensures in
     (ap (λ a. part a (given .i) (given .block .now)) e, ap (λ a. refuses (answer-of a)) e)
 
 pub part-spec : {M : Type 1} → statement M
 part-spec =
     tie.close
     (tie.spec
-    questions-requires
+    admit-requires
     enum-known-p
     positions-requires
     enum-told

@@ -1,0 +1,51 @@
+-- Byte after byte.
+use borrow.Author.Needs.{needs}
+use Rattle.profile.proofs.questions.read.Statement.{statement}
+use Rattle.profile.proofs.questions.read.Tie as tie
+
+byte-requires : tie.Need-byte-requires
+byte-requires c κs = search needs
+
+byte-requires-2 : tie.Need-byte-requires-2
+byte-requires-2 c κs = search needs
+
+byte-requires-3 : tie.Need-byte-requires-3
+byte-requires-3 c κs = search needs
+
+byte-requires-4 : tie.Need-byte-requires-4
+byte-requires-4 c κs = search needs
+
+byte-requires-5 : tie.Need-byte-requires-5
+byte-requires-5 c κs = search needs
+
+byte-requires-6 : tie.Need-byte-requires-6
+byte-requires-6 c κs = search needs
+
+byte-requires-7 : tie.Need-byte-requires-7
+byte-requires-7 c κs = search needs
+
+returns : tie.Need-returns
+returns c =
+    let three = c .before .before .before .before in
+    rw (
+      c .byte7 .ensures,
+      c .before .byte6 .ensures,
+      c .before .before .byte5 .ensures,
+      c .before .before .before .byte4 .ensures,
+      three .byte3 .ensures,
+      three .before .byte2 .ensures,
+      three .before .before .byte .ensures,
+    )
+
+pub read-spec : {M : Type 1} → statement M
+read-spec =
+    tie.close
+    (tie.spec
+    byte-requires
+    byte-requires-2
+    byte-requires-3
+    byte-requires-4
+    byte-requires-5
+    byte-requires-6
+    byte-requires-7
+    returns)

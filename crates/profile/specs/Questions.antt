@@ -1,0 +1,177 @@
+-- The questions that a profile and the buffers lent with it are put, in their order: FORMAT 4.
+--
+--   Question           who asks it, what it asks, and the refusal that a no gives, with its number
+--   questions          all questions, in their order; questions-of c: those that the caller c asks
+--   put k y q a        a question that is asked if k, and answered by yes if y, put to what was accepted so far
+--   asked c l p        all questions put to the profile p, for the caller c who lends l: the first no stays
+--   read b             what the bytes b of a profile mean
+--   admitted c b d o i the profile of the bytes b for the caller c, with an input of d bytes, an output of o bytes and the
+--                      subword i, or the first question that says no
+--   profile-of b       .. by itself: what a card asks
+--   writing b d o, reading-of b d o, fetching b d i    .. for a block that is written, that is read, that is fetched from
+use Prim.Native.Nat.{ℕ, zero, suc, _*_}
+use mathlib.Core.Bool.{Bool, true, false, cond, _&&_, _||_}
+use mathlib.Core.List.{List, [], _∷_}
+use lib.Dec.{leb, ltb, eqb}
+use lib.ListN.{length, getD}
+use Rattle.profile.specs.declared.Profile.{Profile}
+use Rattle.profile.specs.declared.Refusal.{Refusal}
+use Rattle.profile.specs.declared.Refusal.the-variants.{ProfileSize, Subwords, Nested, Capabilities, Length}
+use Rattle.profile.specs.declared.Refusal.the-variants.{InputSize, OutputSize, Subword}
+use Rattle.profile.specs.declared.Parsed.{Parsed}
+use Rattle.profile.specs.declared.Parsed.the-variants.{Accepted, Refused}
+use Rattle.profile.specs.declared.questions.Caller.{Caller}
+use Rattle.profile.specs.declared.questions.Caller.the-variants.{Encoder, Decoder, Fetch, Card}
+use Rattle.profile.specs.declared.questions.Lent.{Lent}
+use Rattle.profile.specs.Definition.{capability, last, block-size, data-size}
+
+-- ---- who asks
+
+abbrev pub everyone : Caller → Bool
+everyone c = true
+
+abbrev pub encodes : Caller → Bool
+encodes Encoder = true
+encodes Decoder = false
+encodes Fetch = false
+encodes Card = false
+
+abbrev pub decodes : Caller → Bool
+decodes Encoder = false
+decodes Decoder = true
+decodes Fetch = false
+decodes Card = false
+
+abbrev pub fetches : Caller → Bool
+fetches Encoder = false
+fetches Decoder = false
+fetches Fetch = true
+fetches Card = false
+
+-- ---- the questions
+
+pub record Question : Type 0 where
+  pub asks : Caller → Bool
+  pub good : Lent → Profile → Bool
+  pub refusal : Refusal
+
+-- FORMAT 4.2: the profile is seven bytes long
+abbrev pub profile-size : Question
+profile-size = record { asks = everyone; good = λ l p. eqb (l .profile) 7; refusal = ProfileSize }
+
+-- FORMAT 4.3: m is from 1 to 8
+abbrev pub good-subwords : Profile → Bool
+good-subwords p = leb 1 (p .subwords) && leb (p .subwords) 8
+
+abbrev pub subwords : Question
+subwords = record { asks = everyone; good = λ l p. good-subwords p; refusal = Subwords }
+
+-- FORMAT 4.4: v is at most 3, and below m
+abbrev pub good-nested : Profile → Bool
+good-nested p = leb (p .nested) 3 && ltb (p .nested) (p .subwords)
+
+abbrev pub nested : Question
+nested = record { asks = everyone; good = λ l p. good-nested p; refusal = Nested }
+
+-- FORMAT 4.5: t0 is at least 1, t1 above t0, none of the next below the one before it, and 0 after tv; tv is at most 24
+abbrev pub good-step : Profile → ℕ → Bool
+good-step p zero = leb 1 (p .t0)
+good-step p (suc zero) = cond (leb 1 (p .nested)) (ltb (p .t0) (p .t1)) (eqb (p .t1) 0)
+good-step p (suc (suc r)) =
+    cond (leb (suc (suc r)) (p .nested))
+    (leb (capability p (suc r)) (capability p (suc (suc r))))
+    (eqb (capability p (suc (suc r))) 0)
+
+abbrev pub good-capabilities : Profile → Bool
+good-capabilities p = good-step p 0 && (good-step p 1 && (good-step p 2 && (good-step p 3 && leb (last p) 24)))
+
+abbrev pub capabilities : Question
+capabilities = record { asks = everyone; good = λ l p. good-capabilities p; refusal = Capabilities }
+
+-- FORMAT 4.6: n is above 2 × tv. A byte is at most 255.
+abbrev pub good-length : Profile → Bool
+good-length p = ltb (2 * last p) (p .length)
+
+abbrev pub length-above : Question
+length-above = record { asks = everyone; good = λ l p. good-length p; refusal = Length }
+
+-- FORMAT 4.7: the input is as long as it has to be: the data of a block, or a block
+abbrev pub input-data : Question
+input-data = record { asks = encodes; good = λ l p. eqb (l .input) (data-size p); refusal = InputSize }
+
+abbrev pub input-block : Question
+input-block = record { asks = λ c. decodes c || fetches c; good = λ l p. eqb (l .input) (block-size p); refusal = InputSize }
+
+-- FORMAT 4.8: the output is a block long
+abbrev pub output-block : Question
+output-block = record { asks = λ c. encodes c || decodes c; good = λ l p. eqb (l .output) (block-size p); refusal = OutputSize }
+
+-- FORMAT 4.11: the number of the subword is below m
+abbrev pub subword-below : Question
+subword-below = record { asks = fetches; good = λ l p. ltb (l .subword) (p .subwords); refusal = Subword }
+
+-- ---- in their order
+
+abbrev pub questions : List Question
+questions =
+    profile-size
+    ∷ subwords
+    ∷ nested
+    ∷ capabilities
+    ∷ length-above
+    ∷ input-data
+    ∷ input-block
+    ∷ output-block
+    ∷ subword-below
+    ∷ []
+
+abbrev chosen : Caller → List Question → List Question
+chosen c [] = []
+chosen c (q ∷ qs) = cond (q .asks c) (q ∷ chosen c qs) (chosen c qs)
+
+abbrev pub questions-of : Caller → List Question
+questions-of c = chosen c questions
+
+-- ---- asked
+
+abbrev pub put : Bool → Bool → Refusal → Parsed → Parsed
+put asks good q (Accepted p) = cond (cond asks good true) (Accepted p) (Refused q)
+put asks good q (Refused r) = Refused r
+
+abbrev pub put-all : Caller → Lent → Profile → List Question → Parsed → Parsed
+put-all c l p [] a = a
+put-all c l p (q ∷ qs) a = put-all c l p qs (put (q .asks c) (q .good l p) (q .refusal) a)
+
+unfoldable pub asked : Caller → Lent → Profile → Parsed
+asked c l p = put-all c l p questions (Accepted p)
+
+-- ---- the bytes of a profile
+
+abbrev pub read : List ℕ → Profile
+read b = record {
+  subwords = getD b 0 0;
+  nested = getD b 1 0;
+  length = getD b 2 0;
+  t0 = getD b 3 0;
+  t1 = getD b 4 0;
+  t2 = getD b 5 0;
+  t3 = getD b 6 0;
+}
+
+abbrev pub lent : List ℕ → (input output subword : ℕ) → Lent
+lent b d o i = record { profile = length b; input = d; output = o; subword = i }
+
+abbrev pub admitted : Caller → List ℕ → (input output subword : ℕ) → Parsed
+admitted c b d o i = asked c (lent b d o i) (read b)
+
+abbrev pub profile-of : List ℕ → Parsed
+profile-of b = admitted Card b 0 0 0
+
+abbrev pub writing : List ℕ → (input output : ℕ) → Parsed
+writing b d o = admitted Encoder b d o 0
+
+abbrev pub reading-of : List ℕ → (input output : ℕ) → Parsed
+reading-of b d o = admitted Decoder b d o 0
+
+abbrev pub fetching : List ℕ → (input subword : ℕ) → Parsed
+fetching b d i = admitted Fetch b d 0 i

@@ -1,0 +1,87 @@
+-- What the questions let pass.
+--
+--   passes c l p q     the question q says no to nothing: the caller c does not ask it, or the answer is yes
+--   Passes c l p qs    all of the questions qs do so
+--
+-- Proved: who is admitted passes every question, and the profile is the one that was asked about (asked-yes); whoever passes
+-- every question is admitted (asked-all); the profile that is admitted for any caller is admitted by itself (admitted-profile).
+use Prim.Native.Nat.{ℕ}
+use mathlib.Core.Path.{_≡_, refl, sym, ap, _∙_}
+use mathlib.Core.Bool.{Bool, true, false, cond, _||_}
+use mathlib.Core.List.{List, [], _∷_}
+use native.Mathlib.Omega.{arith}
+use lib.Dec.{ltb, eqb}
+use Rattle.profile.specs.declared.Profile.{Profile}
+use Rattle.profile.specs.declared.Refusal.{Refusal}
+use Rattle.profile.specs.declared.Refusal.the-variants.{ProfileSize, Subwords, Nested, Capabilities, Length}
+use Rattle.profile.specs.declared.Refusal.the-variants.{InputSize, OutputSize, Subword}
+use Rattle.profile.specs.declared.Parsed.{Parsed}
+use Rattle.profile.specs.declared.Parsed.the-variants.{Accepted, Refused}
+use Rattle.profile.specs.declared.questions.Caller.{Caller}
+use Rattle.profile.specs.declared.questions.Caller.the-variants.{Card}
+use Rattle.profile.specs.declared.questions.Lent.{Lent}
+use Rattle.profile.specs.Definition.{block-size, data-size}
+use Rattle.profile.specs.Questions.{Question, questions, put, put-all, asked, read, admitted, profile-of, lent}
+use Rattle.profile.specs.Questions.{encodes, decodes, fetches, good-subwords, good-nested, good-capabilities, good-length}
+
+abbrev pub passes : Caller → Lent → Profile → Question → Bool
+passes c l p q = cond (q .asks c) (q .good l p) true
+
+abbrev pub Passes : Caller → Lent → Profile → List Question → Type 0
+Passes c l p [] = Unit
+Passes c l p (q ∷ qs) = (passes c l p q ≡ true) × Passes c l p qs
+
+-- one question
+put-yes : (asks good : Bool) (q : Refusal) (a : Parsed) (r : Profile) → put asks good q a ≡ Accepted r
+    → (a ≡ Accepted r) × (cond asks good true ≡ true)
+put-yes asks good q (Accepted p) r e = go (cond asks good true) refl e
+  where
+    go : (b : Bool) → cond asks good true ≡ b → cond b (Accepted p) (Refused q) ≡ Accepted r
+        → (Accepted p ≡ Accepted r) × (cond asks good true ≡ true)
+    go true h e = (e, h)
+    go false h e = let z : _≡_ {A = ℕ} 0 1 = cc in absurd (omega arith)
+put-yes asks good q (Refused s) r e = let z : _≡_ {A = ℕ} 0 1 = cc in absurd (omega arith)
+
+module _ (c : Caller) (l : Lent) (p : Profile) where
+  all-yes : (qs : List Question) (a : Parsed) (r : Profile) → put-all c l p qs a ≡ Accepted r
+      → (a ≡ Accepted r) × Passes c l p qs
+  all-yes [] a r e = (e, tt)
+  all-yes (q ∷ qs) a r e =
+      let (before, rest) = all-yes qs (put (q .asks c) (q .good l p) (q .refusal) a) r e in
+      let (first, now) = put-yes (q .asks c) (q .good l p) (q .refusal) a r before in
+      (first, (now, rest))
+
+  pub asked-yes : (r : Profile) → asked c l p ≡ Accepted r → (p ≡ r) × Passes c l p questions
+  unfolding asked
+  asked-yes r e = let (same, rest) = all-yes questions (Accepted p) r e in (cc, rest)
+
+  all-passed : (qs : List Question) → Passes c l p qs → put-all c l p qs (Accepted p) ≡ Accepted p
+  all-passed [] h = refl
+  all-passed (q ∷ qs) h = rw (h .0) (all-passed qs (h .1))
+
+  pub asked-all : Passes c l p questions → asked c l p ≡ Accepted p
+  unfolding asked
+  asked-all h = all-passed questions h
+
+-- the questions as they are put, one after the other
+pub asked-in-order : (c : Caller) (l : Lent) (p : Profile) → asked c l p ≡
+    put (fetches c) (ltb (l .subword) (p .subwords)) Subword
+    (put (encodes c || decodes c) (eqb (l .output) (block-size p)) OutputSize
+    (put (decodes c || fetches c) (eqb (l .input) (block-size p)) InputSize
+    (put (encodes c) (eqb (l .input) (data-size p)) InputSize
+    (put true (good-length p) Length
+    (put true (good-capabilities p) Capabilities
+    (put true (good-nested p) Nested
+    (put true (good-subwords p) Subwords
+    (put true (eqb (l .profile) 7) ProfileSize (Accepted p)))))))))
+unfolding asked
+asked-in-order c l p = refl
+
+module _ (c : Caller) (b : List ℕ) (d o i : ℕ) (p : Profile) where
+  pub admitted-read : admitted c b d o i ≡ Accepted p → read b ≡ p
+  admitted-read e = asked-yes c (lent b d o i) (read b) p e .0
+
+  pub admitted-profile : admitted c b d o i ≡ Accepted p → profile-of b ≡ Accepted p
+  admitted-profile e =
+      let (same, (y1, (y2, (y3, (y4, (y5, _)))))) = asked-yes c (lent b d o i) (read b) p e in
+      asked-all Card (lent b 0 0 0) (read b) (y1, (y2, (y3, (y4, (y5, (refl, (refl, (refl, (refl, tt))))))))) ∙ ap Accepted same

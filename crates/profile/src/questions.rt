@@ -1,0 +1,218 @@
+// The questions that a profile and the buffers lent with it are put: FORMAT 4. `judge` asks them, one line a question, in their order.
+// What they ask, of whom, and what a no gives stands in specs/Questions.antt.
+ghost use mathlib.Core.Path.{_≡_};
+ghost use mathlib.Core.Bool.{cond};
+ghost use lib.Dec.{leb, eqb};
+ghost use lib.ListN.{getD};
+ghost use Rattle.profile.specs.Definition.{last as Last};
+ghost use Rattle.profile.specs.Questions.{put, read as Read, encodes as Encodes, decodes as Decodes, fetches as Fetches};
+ghost use Rattle.profile.specs.Questions.{good-subwords, good-nested, good-capabilities, good-length, asked, admitted};
+use crate::Parsed;
+use crate::Profile;
+use crate::Refusal;
+
+// Who asks.
+pub enum Caller {
+    Encoder,
+    Decoder,
+    Fetch,
+    Card,
+}
+
+// What a caller lends, as far as a question looks at it: the bytes of the profile, of the input and of the output, and the
+// number of a subword.
+pub struct Lent {
+    pub profile: usize,
+    pub input: usize,
+    pub output: usize,
+    pub subword: usize,
+}
+
+fn encodes(c: Caller) -> bool
+    ensures { λ b. ⌜ b ≡ Encodes c ⌝ }
+{
+    match c {
+        Caller::Encoder => true,
+        Caller::Decoder => false,
+        Caller::Fetch => false,
+        Caller::Card => false,
+    }
+}
+
+fn decodes(c: Caller) -> bool
+    ensures { λ b. ⌜ b ≡ Decodes c ⌝ }
+{
+    match c {
+        Caller::Encoder => false,
+        Caller::Decoder => true,
+        Caller::Fetch => false,
+        Caller::Card => false,
+    }
+}
+
+fn fetches(c: Caller) -> bool
+    ensures { λ b. ⌜ b ≡ Fetches c ⌝ }
+{
+    match c {
+        Caller::Encoder => false,
+        Caller::Decoder => false,
+        Caller::Fetch => true,
+        Caller::Card => false,
+    }
+}
+
+// m from 1 to 8.
+fn subwords(p: Profile) -> bool
+    ensures { λ b. ⌜ b ≡ good-subwords p ⌝ }
+{
+    if p.subwords < 1 {
+        return false;
+    }
+    p.subwords <= 8
+}
+
+// v from 0 to 3 and below m.
+fn nested(p: Profile) -> bool
+    ensures { λ b. ⌜ b ≡ good-nested p ⌝ }
+{
+    if 3 < p.nested {
+        return false;
+    }
+    p.nested < p.subwords
+}
+
+// t_r as it must be after t_(r-1), which rises says, or 0 if r is above v.
+fn step(r: u8, v: u8, rises: bool, t: u8) -> bool
+    ensures { λ b. ⌜ b ≡ cond (leb r v) rises (eqb t 0) ⌝ }
+{
+    if r <= v {
+        return rises;
+    }
+    t == 0
+}
+
+// t_v
+fn last(p: Profile) -> u8
+    ensures { λ t. ⌜ t ≡ Last p ⌝ }
+{
+    p.capability(p.nested)
+}
+
+// t0 at least 1, t0 < t1 ≤ .. ≤ tv ≤ 24, and 0 after tv.
+fn capabilities(p: Profile) -> bool
+    ensures { λ b. ⌜ b ≡ good-capabilities p ⌝ }
+{
+    let v = p.nested;
+    if p.t0 < 1 {
+        return false;
+    }
+    if !step(1, v, p.t0 < p.t1, p.t1) {
+        return false;
+    }
+    if !step(2, v, p.t1 <= p.t2, p.t2) {
+        return false;
+    }
+    if !step(3, v, p.t2 <= p.t3, p.t3) {
+        return false;
+    }
+    last(p) <= 24
+}
+
+// n above 2 × tv.
+fn length(p: Profile) -> bool
+    ensures { λ b. ⌜ b ≡ good-length p ⌝ }
+{
+    2 * (last(p) as u16) < p.length as u16
+}
+
+// A question that was answered: one that is asked, and not answered by yes, refuses.
+fn answered(p: Profile, asks: bool, good: bool, q: Refusal) -> Parsed
+    ensures { λ r. ⌜ r ≡ put asks good q (Parsed.Accepted p) ⌝ }
+{
+    if asks {
+        if !good {
+            return Parsed::Refused(q);
+        }
+    }
+    Parsed::Accepted(p)
+}
+
+// The next question, put to what was accepted so far. The first no stays.
+fn ask(a: Parsed, asks: bool, good: bool, q: Refusal) -> Parsed
+    ensures { λ r. ⌜ r ≡ put asks good q a ⌝ }
+{
+    match a {
+        Parsed::Accepted(p) => answered(p, asks, good, q),
+        Parsed::Refused(r) => Parsed::Refused(r),
+    }
+}
+
+// All questions, in their order: whether the caller asks it, whether the answer is yes, and the refusal if it is not.
+pub fn judge(caller: Caller, l: Lent, p: Profile) -> Parsed
+    ensures { λ a. ⌜ a ≡ asked caller l p ⌝ }
+{
+    let e = encodes(caller);
+    let d = decodes(caller);
+    let f = fetches(caller);
+    let size = p.block_size();
+    let a1 = ask(
+        Parsed::Accepted(p),
+        true,
+        l.profile == 7,
+        Refusal::ProfileSize,
+    );
+    let a2 = ask(a1, true, subwords(p), Refusal::Subwords);
+    let a3 = ask(a2, true, nested(p), Refusal::Nested);
+    let a4 = ask(a3, true, capabilities(p), Refusal::Capabilities);
+    let a5 = ask(a4, true, length(p), Refusal::Length);
+    let a6 = ask(a5, e, l.input == p.data_size(), Refusal::InputSize);
+    let a7 = ask(a6, d | f, l.input == size, Refusal::InputSize);
+    let a8 = ask(a7, e | d, l.output == size, Refusal::OutputSize);
+    ask(a8, f, l.subword < p.subwords as usize, Refusal::Subword)
+}
+
+// Byte i, 0 where there is none.
+fn byte(bytes: &[u8], i: usize) -> u8
+    ensures { λ b. ⌜ b ≡ getD (now (bytes .entry)) i 0 ⌝ }
+{
+    if i < bytes.len() {
+        return bytes[i];
+    }
+    0
+}
+
+// What the bytes of a profile mean.
+fn read(bytes: &[u8]) -> Profile
+    ensures { λ p. ⌜ p ≡ Read (now (bytes .entry)) ⌝ }
+{
+    Profile {
+        subwords: byte(bytes, 0),
+        nested: byte(bytes, 1),
+        length: byte(bytes, 2),
+        t0: byte(bytes, 3),
+        t1: byte(bytes, 4),
+        t2: byte(bytes, 5),
+        t3: byte(bytes, 6),
+    }
+}
+
+// The profile of these bytes for a caller who lends an input and an output of so many bytes and names a subword, or the first
+// question that says no.
+pub fn admit(caller: Caller, profile: &[u8], input: usize, output: usize, subword: usize) -> Parsed
+    ensures { λ a. ⌜ a ≡ admitted caller (now (profile .entry)) input output subword ⌝ }
+{
+    let l = Lent {
+        profile: profile.len(),
+        input: input,
+        output: output,
+        subword: subword,
+    };
+    judge(caller, l, read(profile))
+}
+
+// A profile by itself: what a card asks.
+pub fn parse(profile: &[u8]) -> Parsed
+    ensures { λ a. ⌜ a ≡ admitted Caller.Card (now (profile .entry)) 0 0 0 ⌝ }
+{
+    admit(Caller::Card, profile, 0, 0, 0)
+}
