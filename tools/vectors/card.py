@@ -5,7 +5,7 @@ import gii
 from .common import number, sized, stored
 
 
-def make(_):
+def make():
     with stored(cases.cards) as folder:
         cards = {path.stem: path.read_bytes() for path in sorted((folder / 'cards').glob('*.bin'))}
     sample = cards['sample']

@@ -143,7 +143,7 @@ def refusals(c, some):
             c.fetch(SAMPLE, some(size), i)
 
 
-def make(_):
+def make():
     c = Cases()
     rng = random.Random('code_vectors/1')
 

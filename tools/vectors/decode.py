@@ -281,7 +281,7 @@ def strips(c, lines):
         c.add(profile, received, n, expected)
 
 
-def make(_):
+def make():
     c = Cases()
     rng = random.Random('decode_vectors')
     lines = libfec_strips()

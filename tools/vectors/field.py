@@ -15,7 +15,7 @@ def product(a, b):
     return p
 
 
-def make(_):
+def make():
     powers = [1]
     while len(powers) < 255:
         powers.append(product(powers[-1], 2))

@@ -170,7 +170,7 @@ def lines_of(t, n, syndromes):
         yield '%s | %d %d | %s |%s' % (name, t, n, found, changes)
 
 
-def make(_):
+def make():
     c, r = Cases(), Random()
     model_rows(c)
     small(c)
