@@ -1,15 +1,16 @@
 /* Strips of a second Reed-Solomon program, Debian's libfec (package libfec-dev), for the test program test_decode.
  *
- *     cc -O2 make_libfec_strips.c -lfec -o make_libfec_strips
- *     ./make_libfec_strips > strips.txt
+ *     cc -O2 libfec_strips.c -lfec -o libfec_strips && ./libfec_strips
  *
- * A strip is a word of n bytes with 2t check bytes, first root alpha^1, over GF(256) modulo 0x11d: a block of the profile 1 0 n t 0 0 0. libfec
- * encodes the data; some bytes are changed; libfec corrects what comes of it. A line for each strip, position 0 first:
+ * A strip is a word of n bytes with 2t check bytes, first root alpha^1, over GF(256) modulo 0x11d: a block of the
+ * profile 1 0 n t 0 0 0. libfec encodes the data; some bytes are changed; libfec corrects what comes of it. A line for
+ * each strip, position 0 first:
  *
  *     t n | the strip as it is received | the strip as libfec gives it back, or - where it gives up
  *
- * Up to t changes, what libfec gives back is what it encoded, or the program stops with status 1. Above t, what it gives back counts only if libfec's
- * encoder confirms it and at most t bytes differ: libfec may also change positions past the strip's end, and says nothing of that.
+ * Up to t changes, what libfec gives back is what it encoded, or the program stops with status 1. Above t, what it
+ * gives back counts only if libfec's encoder confirms it and at most t bytes differ: libfec may also change positions
+ * past the strip's end, and says nothing of that.
  *
  * Data and changes come from a fixed generator: the output is the same at every run.
  */
@@ -67,8 +68,9 @@ static int strip(int t, int n, int changes, int zero) {
 }
 
 int main(void) {
-    static const int codes[][2] = {{14, 255}, {14, 204}, {14, 60}, {14, 29}, {1, 3}, {1, 26}, {1, 255}, {2, 5}, {2, 40}, {3, 200},
-                                   {5, 11}, {8, 255}, {8, 32}, {16, 255}, {16, 33}, {24, 255}, {24, 128}, {24, 49}};
+    static const int codes[][2] = {{14, 255}, {14, 204}, {14, 60}, {14, 29}, {1, 3}, {1, 26}, {1, 255}, {2, 5}, {2, 40},
+                                   {3, 200}, {5, 11}, {8, 255}, {8, 32}, {16, 255}, {16, 33}, {24, 255}, {24, 128},
+                                   {24, 49}};
     for (unsigned q = 0; q < sizeof codes / sizeof *codes; q++) {
         int t = codes[q][0], n = codes[q][1];
         int changes[] = {0, 1, t - 1, t, t, t + 1, t + 2};

@@ -1,0 +1,160 @@
+"""test_code: profiles, writes and fetches, answered by the model. Some cases are the model's of seed 7, the others are
+made here from a fixed generator."""
+import random
+
+import cases
+import gii
+from .common import number, numbers, rows, sized, spaced, stored, text
+
+PROFILE, WRITE, FETCH = 0, 1, 2
+SAMPLE = bytes([2, 1, 5, 1, 2, 0, 0])
+BEFORE = 170             # what an output holds before it is written to
+
+
+class Cases:
+    """The cases as bytes, and the lines that are expected for them."""
+
+    def __init__(self):
+        self.bytes, self.lines = [], []
+
+    def add(self, kind, name, profile, rest, line):
+        self.bytes.append(bytes([kind, len(profile)]) + profile + rest)
+        self.lines.append('%s%s |%s' % (name, spaced(profile), line))
+
+    def profile(self, profile):
+        refusal, p = gii.read_profile(profile)
+        self.add(PROFILE, 'profile', bytes(profile), b'', spaced([refusal, p.data_size if p else 0]))
+
+    def write(self, profile, data, size):
+        refusal, block = gii.write(profile, data, size)
+        out = bytes([BEFORE]) * size if refusal else block
+        line = '%s | %d |%s' % (spaced([len(data), size]), refusal, spaced(out))
+        self.add(WRITE, 'write', bytes(profile), sized(data) + number(size), line)
+        return block
+
+    def fetch(self, profile, block, i):
+        refusal, start, end = gii.fetch(profile, len(block), i)
+        line = '%s | %d |%s' % (spaced([len(block), i]), refusal, spaced(block[start:end]))
+        self.add(FETCH, 'fetch', bytes(profile), sized(block) + number(i), line)
+
+
+def samples(c):
+    for profile in SAMPLE, [2, 1, 4, 1, 2, 0, 0], [8, 3, 255, 14, 16, 18, 24], [8, 3, 255, 14, 16, 18, 25], \
+            [2, 1, 26, 1, 2, 0, 0]:
+        c.profile(profile)
+    c.write(SAMPLE, bytes([1, 0, 0, 0]), 10)
+    c.write(SAMPLE, bytes([0, 1, 0, 0]), 10)
+
+
+def model_cases(c, some):
+    """The model's profiles, writes and fetches as of the base, and its strips, which are blocks of one subword."""
+    with stored(cases.profiles, cases.writer, cases.fetches, cases.rs_strips) as folder:
+        profiles = [profile for as_of, _, profile, _, _ in rows(folder / 'profiles.txt') if as_of == '0']
+        for profile in dict.fromkeys(profiles):
+            c.profile(bytes(numbers(profile)))
+        for as_of, profile, data, size, _, _ in rows(folder / 'writer.txt'):
+            if as_of == '0':
+                c.write(bytes(numbers(profile)), bytes(numbers(data)), int(size))
+        for as_of, profile, size, i, _, _, _ in rows(folder / 'fetch.txt'):
+            if as_of == '0':
+                c.fetch(bytes(numbers(profile)), some(int(size)), int(i))
+        for t, n, f, data, strip in rows(folder / 'rs_strips.txt'):
+            if f == '1':
+                block = c.write(bytes([1, 0, int(n), int(t), 0, 0, 0]), bytes(numbers(data)), int(n))
+                assert block == bytes(numbers(strip))
+
+
+def profile_of(m, v, n, t):
+    """The seven bytes, of the first v + 1 capabilities."""
+    return bytes([m, v, n, *t[:v + 1]] + [0] * (3 - v))
+
+
+def edges(c):
+    """Profiles at the edges of what questions 1 to 5 let pass."""
+    for size in range(10):
+        c.profile((SAMPLE + b'\0\0')[:size])
+    for m in range(11):
+        for v in range(5):
+            c.profile(bytes([m, v]) + profile_of(m, min(v, 3), 255, (1, 2, 3, 4))[2:])
+    for v in range(4):
+        for t in (0, 1, 1, 1), (1, 1, 1, 1), (1, 2, 1, 2), (1, 2, 2, 1), (1, 2, 2, 2), (1, 24, 24, 24), \
+                (23, 24, 24, 24), (24, 24, 24, 24), (23, 25, 25, 25), (24, 25, 25, 25), (1, 2, 25, 2):
+            c.profile(profile_of(4, v, 2 * t[v], t))
+            c.profile(profile_of(4, v, 2 * t[v] + 1, t))
+        for i in range(v + 1, 4):
+            profile = bytearray(profile_of(4, v, 255, (1, 2, 3)))
+            profile[3 + i] = 1
+            c.profile(bytes(profile))
+
+
+def capabilities(rng, v):
+    if v == 0:
+        return [rng.randint(1, 24)]
+    later = sorted(rng.randint(2, 24) for _ in range(v))
+    return [rng.randint(1, later[0] - 1)] + later
+
+
+def every_shape(c, rng, some):
+    """Writes for every m and v, short and long, and fetches of every subword of the shortest blocks. The two lengths
+    come in the order in which Python goes through a set of them."""
+    def put(m, v, n, t):
+        profile = profile_of(m, v, n, t)
+        p = gii.read_profile(profile)[1]
+        block = c.write(profile, some(p.data_size), p.size)
+        if n == 2 * p.tv + 1 < 10:
+            for i in range(m):
+                c.fetch(profile, block, i)
+
+    for m in range(1, 9):
+        for v in range(min(4, m)):
+            for t in (1, 2, 2, 2), (1, 2, 3, 4), (2, 4, 4, 6), (1, 24, 24, 24), (23 if v else 24, 24, 24, 24):
+                least = 2 * t[v] + 1
+                for n in {least, least + rng.randint(1, 12)} if least < 49 else {49}:
+                    put(m, v, n, t)
+            put(m, v, 255, capabilities(rng, v))
+
+
+def random_writes(c, rng, some):
+    for _ in range(60):
+        m = rng.randint(1, 8)
+        v = rng.randint(0, min(3, m - 1))
+        t = capabilities(rng, v)
+        profile = profile_of(m, v, 2 * t[v] + 1 + rng.randrange(40), t)
+        p = gii.read_profile(profile)[1]
+        k = p.data_size
+        c.write(profile, rng.choice([bytes(k), b'\xff' * k, some(k), some(k)]), p.size)
+
+
+def refusals(c, some):
+    """Refused writes and fetches: a profile at fault, with sizes that are right and wrong; then sizes at fault."""
+    for profile in [2, 1, 5, 1, 2, 0], [2, 1, 5, 1, 2, 0, 0, 0], [], [0, 1, 5, 1, 2, 0, 0], [9, 1, 5, 1, 2, 0, 0], \
+            [0] * 7, [2, 2, 5, 1, 2, 2, 0], [2, 4, 5, 1, 2, 0, 0], [2, 1, 5, 0, 2, 0, 0], [2, 1, 5, 2, 2, 0, 0], \
+            [2, 1, 5, 1, 2, 1, 0], [2, 1, 4, 1, 25, 0, 0], [2, 1, 4, 1, 2, 0, 0], [2, 1, 0, 1, 2, 0, 0]:
+        for k, size in (4, 10), (3, 10), (4, 9), (0, 0):
+            c.write(bytes(profile), some(k), size)
+        for size, i in (10, 0), (9, 1), (10, 2):
+            c.fetch(bytes(profile), some(size), i)
+    for k in 0, 3, 4, 5, 10, 2048:
+        for size in 0, 9, 10, 11, 100:
+            if (k, size) != (4, 10):
+                c.write(SAMPLE, some(k), size)
+    for size in 0, 9, 10, 11, 20:
+        for i in 0, 1, 2, 3, 255, 256, 65535:
+            c.fetch(SAMPLE, some(size), i)
+
+
+def make():
+    c = Cases()
+    rng = random.Random('code_vectors/1')
+
+    def some(k):
+        """So many bytes."""
+        return bytes(rng.randrange(256) for _ in range(k))
+
+    samples(c)
+    model_cases(c, some)
+    edges(c)
+    every_shape(c, rng, some)
+    random_writes(c, rng, some)
+    refusals(c, some)
+    return {'stdin': number(len(c.bytes)) + b''.join(c.bytes), 'stdout': text(c.lines)}
