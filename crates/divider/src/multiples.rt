@@ -11,6 +11,7 @@ ghost use Rattle.divider.specs.Packed.{packed, tops};
 ghost use Rattle.divider.specs.Multiples.{wide as Wide, narrow as Narrow, rows, Slim, lower, Multiples};
 ghost use Rattle.divider.specs.MultiplesBuilding.{Two, Written, Added};
 use crate::packed::Packed;
+use polynomial::SYNDROMES;
 
 // Six words from 6f on.
 pub fn wide(t: &[u64], f: usize) -> Packed
@@ -81,12 +82,12 @@ fn level(k: usize, t: &mut [u64], w: usize, r: Packed)
 }
 
 // Symbol by symbol.
-fn doubled(list: [u8; 48]) -> [u8; 48]
+fn doubled(list: [u8; SYNDROMES]) -> [u8; SYNDROMES]
     ensures { λ r. ⌜ bytes r ≡ K α ⊠ bytes list ⌝ }
 {
-    let mut out = [0u8; 48];
+    let mut out = [0u8; SYNDROMES];
     let mut i: usize = 0;
-    while i < 48 {
+    while i < SYNDROMES {
         out[i] = kernel::twice(list[i]);
         i += 1;
     }
@@ -94,7 +95,7 @@ fn doubled(list: [u8; 48]) -> [u8; 48]
 }
 
 // The table of the list's 48 symbols, the last k of them not zero. The product is linear, so eight levels make it with no product.
-pub fn multiples(list: [u8; 48], k: usize, t: &mut [u64])
+pub fn multiples(list: [u8; SYNDROMES], k: usize, t: &mut [u64])
     requires { ⌜ (1536 ≤ length (now t)) × ((i : _) → i < 48 - k → bytes list i ≡ 𝟎) ⌝ }
     ensures { λ _. ⌜ Multiples (rows k) (now (t .exit)) × (lower (rows k) (now (t .exit)) ≡ bytes list) ⌝ }
 {

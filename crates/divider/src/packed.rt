@@ -8,6 +8,7 @@ ghost use Rattle.series.specs.Series.{K, Z, _⊞_, _⊠_};
 ghost use Rattle.series.specs.Shift.{zpow, drop, cut};
 ghost use Rattle.series.specs.Array.{bytes};
 ghost use Rattle.divider.specs.Packed.{digits, packed, tops};
+use polynomial::SYNDROMES;
 
 pub struct Packed(pub u64, pub u64, pub u64, pub u64, pub u64, pub u64);
 
@@ -26,7 +27,7 @@ fn word(list: &[u8], at: usize) -> u64
 }
 
 // Each word by itself.
-pub fn pack(list: [u8; 48]) -> Packed
+pub fn pack(list: [u8; SYNDROMES]) -> Packed
     ensures { λ r. ⌜ packed r ≡ bytes list ⌝ }
 {
     Packed(
@@ -54,10 +55,10 @@ fn add_word(w: u64, at: usize, out: &mut [u8])
 }
 
 // Each word is added to zeros.
-pub fn unpack(r: Packed) -> [u8; 48]
+pub fn unpack(r: Packed) -> [u8; SYNDROMES]
     ensures { λ out. ⌜ bytes out ≡ packed r ⌝ }
 {
-    let mut out = [0u8; 48];
+    let mut out = [0u8; SYNDROMES];
     add_word(r.0, 0, &mut out);
     add_word(r.1, 8, &mut out);
     add_word(r.2, 16, &mut out);

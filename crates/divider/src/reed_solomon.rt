@@ -20,7 +20,7 @@ pub fn encode(t: &[u64], k: usize, word: &mut [u8])
 {
     let r = crate::division::remainder(t, word, k);
     let checks = crate::packed::unpack(r);
-    let s = 48 - k;
+    let s = SYNDROMES - k;
     let mut p: usize = 0;
     while p < k {
         word[p] = checks[s + p];
@@ -34,7 +34,7 @@ fn difference(word: &[u8], k: usize, r: Packed) -> [u8; SYNDROMES]
     ensures { λ out. ⌜ bytes out ≡ cut k (bytes (now (word .entry)) ⊞ drop (48 - k) (packed r)) ⌝ }
 {
     let checks = crate::packed::unpack(r);
-    let above = 48 - k;
+    let above = SYNDROMES - k;
     let mut out = [0u8; SYNDROMES];
     let mut q: usize = 0;
     while q < k {

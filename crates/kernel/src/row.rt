@@ -63,15 +63,3 @@ pub fn add_multiple(row: &[u8], from: &[u8], to: &mut [u8])
         i += 1;
     }
 }
-
-// Sums, symbol by symbol.
-pub fn add(from: &[u8], to: &mut [u8])
-    requires { ⌜ length (now from) ≡ length (now to) ⌝ }
-    ensures { λ _. ⌜ bytes (now (to .exit)) ≡ bytes (now (to .entry)) ⊞ bytes (now (from .entry)) ⌝ }
-{
-    let mut q: usize = 0;
-    while q < to.len() {
-        to[q] = to[q] ^ from[q];
-        q += 1;
-    }
-}
