@@ -13,6 +13,8 @@ ghost use Rattle.solver.specs.SwapIterations.{iterated};
 ghost use Rattle.solver.specs.LookaheadView.{lookahead, clip-lookahead, iterate-lookahead};
 ghost use Rattle.solver.specs.LookaheadStep.{stepped};
 use field::Gf;
+use polynomial::COEFFICIENTS;
+use polynomial::SYNDROMES;
 use polynomial::product;
 use polynomial::syndromes::coefficient;
 
@@ -20,12 +22,12 @@ use polynomial::syndromes::coefficient;
 // of Δ and Θ: gamma_s is γ S_(r+1), delta_s is δ S_(r+1), theta_s is θ S_(r+2), g1 is S_(r+1) S_(r+3), g2 is S_(r+2) S_(r+3), h1 is γ S_(r+2),
 // h2 is γ S_(r+1) S_(r+2). After r iterations k is r - 2L.
 pub struct Lookahead {
-    pub locator: [Gf; 49],
-    pub auxiliary: [Gf; 49],
+    pub locator: [Gf; COEFFICIENTS],
+    pub auxiliary: [Gf; COEFFICIENTS],
     pub gamma: Gf,
     pub length: u16,
-    pub delta: [Gf; 49],
-    pub theta: [Gf; 49],
+    pub delta: [Gf; COEFFICIENTS],
+    pub theta: [Gf; COEFFICIENTS],
     pub gamma_s: Gf,
     pub delta_s: Gf,
     pub theta_s: Gf,
@@ -45,7 +47,7 @@ fn two_products(a: Gf, b: Gf, c: Gf, d: Gf) -> Gf
 }
 
 // f + a g
-fn add_multiple(f: [Gf; 49], a: Gf, g: [Gf; 49]) -> [Gf; 49]
+fn add_multiple(f: [Gf; COEFFICIENTS], a: Gf, g: [Gf; COEFFICIENTS]) -> [Gf; COEFFICIENTS]
     ensures { λ r. ⌜ poly r ≡ poly f ⊞ K (val a) ⊠ poly g ⌝ }
 {
     let h = polynomial::scale(a, g);
@@ -76,7 +78,7 @@ impl Lookahead {
     }
 
     // Enters a round at u.
-    pub fn enter(self, u: u8, s: [Gf; 48]) -> Lookahead
+    pub fn enter(self, u: u8, s: [Gf; SYNDROMES]) -> Lookahead
         ensures { λ p. ⌜ lookahead u p ≡ Enter u (row s) (lookahead u self) ⌝ }
     {
         let at = u as usize;
@@ -108,7 +110,7 @@ impl Lookahead {
     }
 
     // Lines 1 to 3. They do not look at k.
-    fn next_locator(self) -> [Gf; 49]
+    fn next_locator(self) -> [Gf; COEFFICIENTS]
         ensures { λ f. ⌜ poly f ≡ cut 49 (next-Λ (lookahead 0 self)) ⌝ }
     {
         let f = self.locator;
@@ -118,7 +120,7 @@ impl Lookahead {
         polynomial::combine(self.gamma, f, delta[0], zb)
     }
 
-    fn next_delta(self) -> [Gf; 49]
+    fn next_delta(self) -> [Gf; COEFFICIENTS]
         ensures { λ f. ⌜ poly f ≡ cut 49 (next-Δ (lookahead 0 self)) ⌝ }
     {
         let f = self.locator;
@@ -146,11 +148,11 @@ impl Lookahead {
     fn step(
         self,
         r: u8,
-        s: [Gf; 48],
-        auxiliary: [Gf; 49],
+        s: [Gf; SYNDROMES],
+        auxiliary: [Gf; COEFFICIENTS],
         gamma: Gf,
         length: u16,
-        theta: [Gf; 49],
+        theta: [Gf; COEFFICIENTS],
         theta_s: Gf,
     ) -> Lookahead
         ensures { λ p. ⌜ lookahead (r + 1) p ≡
@@ -178,7 +180,7 @@ impl Lookahead {
     }
 
     // Lines 5 to 10: B becomes Λ and γ becomes δ.
-    fn swap(self, r: u8, s: [Gf; 48]) -> Lookahead
+    fn swap(self, r: u8, s: [Gf; SYNDROMES]) -> Lookahead
         requires { ⌜ swapping r (row s) (lookahead r self) ≡ true ⌝ }
         ensures { λ p. ⌜ lookahead (r + 1) p ≡ clip-lookahead (Swap r (row s) (lookahead r self)) ⌝ }
     {
@@ -196,7 +198,7 @@ impl Lookahead {
     }
 
     // Lines 11 to 16: B becomes zB.
-    fn hold(self, r: u8, s: [Gf; 48]) -> Lookahead
+    fn hold(self, r: u8, s: [Gf; SYNDROMES]) -> Lookahead
         ensures { λ p. ⌜ lookahead (r + 1) p ≡ clip-lookahead (Hold r (row s) (lookahead r self)) ⌝ }
     {
         let at = r as usize;
@@ -211,7 +213,7 @@ impl Lookahead {
     }
 
     // Iteration r. Polynomials have 49 coefficients: what would be above is lost.
-    pub fn iterate(self, r: u8, s: [Gf; 48]) -> Lookahead
+    pub fn iterate(self, r: u8, s: [Gf; SYNDROMES]) -> Lookahead
         ensures { λ p. ⌜ lookahead (r + 1) p ≡ clip-lookahead (Iterate r (row s) (lookahead r self)) ⌝ }
     {
         let delta = self.delta;
@@ -221,7 +223,7 @@ impl Lookahead {
         self.hold(r, s)
     }
     // Iterations `from` to `to` - 1. There is none if `to` is not above `from`.
-    pub fn run(self, from: u8, to: u8, s: [Gf; 48]) -> Lookahead
+    pub fn run(self, from: u8, to: u8, s: [Gf; SYNDROMES]) -> Lookahead
         ensures { λ p. ⌜ lookahead (from + (to - from)) p ≡ iterated (iterate-lookahead (row s)) from (to - from) (lookahead from self) ⌝ }
     {
         let mut p = self;

@@ -8,11 +8,13 @@ ghost use Rattle.key_equation.specs.Plain.{start as Start, δ, iterate as Itera
 ghost use Rattle.solver.specs.SwapIterations.{iterated};
 ghost use Rattle.solver.specs.PlainView.{plain, clip-plain, iterate-plain};
 use field::Gf;
+use polynomial::COEFFICIENTS;
+use polynomial::SYNDROMES;
 
 // Λ, B, γ and the length L. After r iterations k is r - 2L.
 pub struct Plain {
-    pub locator: [Gf; 49],
-    pub auxiliary: [Gf; 49],
+    pub locator: [Gf; COEFFICIENTS],
+    pub auxiliary: [Gf; COEFFICIENTS],
     pub gamma: Gf,
     pub length: u16,
 }
@@ -30,7 +32,7 @@ impl Plain {
         }
     }
 
-    pub fn discrepancy(self, r: u8, s: [Gf; 48]) -> Gf
+    pub fn discrepancy(self, r: u8, s: [Gf; SYNDROMES]) -> Gf
         ensures { λ d. ⌜ val d ≡ δ r (row s) (plain r self) ⌝ }
     {
         let locator = self.locator;
@@ -64,7 +66,7 @@ impl Plain {
     }
 
     // Iteration r. Polynomials have 49 coefficients: what would be above is lost.
-    pub fn iterate(self, r: u8, s: [Gf; 48]) -> Plain
+    pub fn iterate(self, r: u8, s: [Gf; SYNDROMES]) -> Plain
         ensures { λ p. ⌜ plain (r + 1) p ≡ clip-plain (Iterate r (row s) (plain r self)) ⌝ }
     {
         let d = self.discrepancy(r, s);
@@ -72,7 +74,7 @@ impl Plain {
     }
 
     // Iterations `from` to `to` - 1, with the table reversed once for all of them. There is none if `to` is not above `from`.
-    pub fn run(self, from: u8, to: u8, s: [Gf; 48]) -> Plain
+    pub fn run(self, from: u8, to: u8, s: [Gf; SYNDROMES]) -> Plain
         ensures { λ p. ⌜ plain (from + (to - from)) p ≡ iterated (iterate-plain (row s)) from (to - from) (plain from self) ⌝ }
     {
         let table = polynomial::syndromes::reversed(s);

@@ -11,12 +11,13 @@ ghost use Rattle.solver.specs.RoundsEvent.{Going, Arrived};
 use crate::Form;
 use crate::Solver;
 use field::Gf;
+use polynomial::SYNDROMES;
 
 // Where a run is: the solver as it was handed back last, the iterations so far, and which of them were swaps.
 pub struct Progress {
     pub solver: Solver,
     pub iterations: u8,
-    pub swapped: [bool; 48],
+    pub swapped: [bool; SYNDROMES],
 }
 
 fn least(a: usize, b: usize) -> usize
@@ -29,11 +30,11 @@ fn least(a: usize, b: usize) -> usize
 }
 
 // The first n syndromes, then zeros.
-fn first(bytes: &[u8], n: usize) -> [Gf; 48]
+fn first(bytes: &[u8], n: usize) -> [Gf; SYNDROMES]
     requires { ⌜ n ≤ length (syndromes-of (now bytes)) ⌝ }
     ensures { λ s. ⌜ row s ≡ entry (take n (syndromes-of (now (bytes .entry)))) ⌝ }
 {
-    let mut s = [Gf::ZERO; 48];
+    let mut s = [Gf::ZERO; SYNDROMES];
     let mut i: usize = 0;
     while i < n {
         s[i] = Gf(bytes[i]);
@@ -47,14 +48,14 @@ fn reach(known: usize, entered: usize, syndromes: &[u8], lengths: &[u8]) -> usiz
     requires { ⌜ (known ≤ 48) × (entered < length (now lengths)) ⌝ }
     ensures { λ n. ⌜ n ≡ min (known + getD (now (lengths .entry)) entered 0) (length (syndromes-of (now (syndromes .entry)))) ⌝ }
 {
-    let all = least(syndromes.len(), 48);
+    let all = least(syndromes.len(), SYNDROMES);
     least(known + lengths[entered] as usize, all)
 }
 
 // A run on its way: the syndromes so far and how many they are, and how many rounds have been entered.
 struct Walk {
     progress: Progress,
-    syndromes: [Gf; 48],
+    syndromes: [Gf; SYNDROMES],
     known: usize,
     entered: usize,
 }
@@ -122,9 +123,9 @@ pub fn run(form: Form, syndromes: &[u8], lengths: &[u8], events: usize) -> Progr
         progress: Progress {
             solver: solver,
             iterations: 0,
-            swapped: [false; 48],
+            swapped: [false; SYNDROMES],
         },
-        syndromes: [Gf::ZERO; 48],
+        syndromes: [Gf::ZERO; SYNDROMES],
         known: 0,
         entered: 0,
     };

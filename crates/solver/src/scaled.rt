@@ -11,18 +11,20 @@ ghost use Rattle.key_equation.specs.Scaled.{unless, ratio as Ratio, holding as 
 ghost use Rattle.solver.specs.SwapIterations.{iterated};
 ghost use Rattle.solver.specs.ScaledView.{scaled, clip-scaled, iterate-scaled, Products-of, stepped};
 use field::Gf;
+use polynomial::COEFFICIENTS;
+use polynomial::SYNDROMES;
 use polynomial::product;
 use polynomial::syndromes::coefficient;
 
 // Λ, B, γ', the length L, Δ and Θ. After r iterations k is r - 2L, and the scalars are held for iteration r: with d the constant term of Δ,
 // g = S'_(r+1)/S'_r, ρ is γ' or 1 if d = 0, ξ is d, ρ_S is gρ and ξ_S is gξ.
 pub struct Scaled {
-    pub locator: [Gf; 49],
-    pub auxiliary: [Gf; 49],
+    pub locator: [Gf; COEFFICIENTS],
+    pub auxiliary: [Gf; COEFFICIENTS],
     pub gamma: Gf,
     pub length: u16,
-    pub delta: [Gf; 49],
-    pub theta: [Gf; 49],
+    pub delta: [Gf; COEFFICIENTS],
+    pub theta: [Gf; COEFFICIENTS],
     pub ratio: Gf,
     pub rho: Gf,
     pub xi: Gf,
@@ -32,10 +34,10 @@ pub struct Scaled {
 
 // The products of an iteration: ρ_S Λ, ξ_S zB, ρ Δ/z and ξ Θ.
 struct Products {
-    locator: [Gf; 49],
-    auxiliary: [Gf; 49],
-    delta: [Gf; 49],
-    theta: [Gf; 49],
+    locator: [Gf; COEFFICIENTS],
+    auxiliary: [Gf; COEFFICIENTS],
+    delta: [Gf; COEFFICIENTS],
+    theta: [Gf; COEFFICIENTS],
 }
 
 // x, or 1 where d is 0.
@@ -49,7 +51,7 @@ fn one_if_zero(d: Gf, x: Gf) -> Gf
 }
 
 // t + f, or t where x is 0.
-fn sum_unless(x: Gf, t: [Gf; 49], f: [Gf; 49]) -> [Gf; 49]
+fn sum_unless(x: Gf, t: [Gf; COEFFICIENTS], f: [Gf; COEFFICIENTS]) -> [Gf; COEFFICIENTS]
     ensures { λ r. ⌜ poly r ≡ poly t ⊞ unless (val x) (poly f) ⌝ }
 {
     if x.is_zero() {
@@ -59,7 +61,7 @@ fn sum_unless(x: Gf, t: [Gf; 49], f: [Gf; 49]) -> [Gf; 49]
 }
 
 // a zf. The top coefficient of f is lost.
-fn scale_shifted(a: Gf, f: [Gf; 49]) -> [Gf; 49]
+fn scale_shifted(a: Gf, f: [Gf; COEFFICIENTS]) -> [Gf; COEFFICIENTS]
     ensures { λ r. ⌜ poly r ≡ cut 49 (K (val a) ⊠ (Z ⊠ poly f)) ⌝ }
 {
     let zf = polynomial::shift::times_z(f);
@@ -67,7 +69,7 @@ fn scale_shifted(a: Gf, f: [Gf; 49]) -> [Gf; 49]
 }
 
 // g for iteration r.
-fn ratio(r: u16, s: [Gf; 48]) -> Gf
+fn ratio(r: u16, s: [Gf; SYNDROMES]) -> Gf
     ensures { λ g. ⌜ val g ≡ Ratio r (row s) ⌝ }
 {
     let x = coefficient(s, r as usize);
@@ -80,13 +82,13 @@ fn ratio(r: u16, s: [Gf; 48]) -> Gf
 // The state with these, and the scalars for iteration r.
 fn holding(
     r: u16,
-    s: [Gf; 48],
-    locator: [Gf; 49],
-    auxiliary: [Gf; 49],
+    s: [Gf; SYNDROMES],
+    locator: [Gf; COEFFICIENTS],
+    auxiliary: [Gf; COEFFICIENTS],
     gamma: Gf,
     length: u16,
-    delta: [Gf; 49],
-    theta: [Gf; 49],
+    delta: [Gf; COEFFICIENTS],
+    theta: [Gf; COEFFICIENTS],
 ) -> Scaled
     ensures { λ p. ⌜ scaled r p ≡ Holding r (row s) (poly locator) (poly auxiliary) (val gamma) (k-of r length) (poly delta) (poly theta) ⌝ }
 {
@@ -113,10 +115,10 @@ fn holding(
 // The state for iteration r, from the products of the one before: B becomes b, and Θ becomes t with b added unless S_r = 0.
 fn step(
     r: u16,
-    s: [Gf; 48],
+    s: [Gf; SYNDROMES],
     p: Products,
-    b: [Gf; 49],
-    t: [Gf; 49],
+    b: [Gf; COEFFICIENTS],
+    t: [Gf; COEFFICIENTS],
     gamma: Gf,
     length: u16,
 ) -> Scaled
@@ -157,7 +159,7 @@ impl Scaled {
     }
 
     // Enters a round at u. Δ and Θ take Λ and B as they were.
-    pub fn enter(self, u: u8, s: [Gf; 48]) -> Scaled
+    pub fn enter(self, u: u8, s: [Gf; SYNDROMES]) -> Scaled
         ensures { λ p. ⌜ scaled u p ≡ Enter u (row s) (scaled u self) ⌝ }
     {
         let f = self.locator;
@@ -200,7 +202,7 @@ impl Scaled {
     }
 
     // Iteration r. Polynomials have 49 coefficients: what would be above is lost.
-    pub fn iterate(self, r: u8, s: [Gf; 48]) -> Scaled
+    pub fn iterate(self, r: u8, s: [Gf; SYNDROMES]) -> Scaled
         ensures { λ p. ⌜ scaled (r + 1) p ≡ clip-scaled (Iterate r (row s) (scaled r self)) ⌝ }
     {
         let b = self.auxiliary;
@@ -227,7 +229,7 @@ impl Scaled {
         step(n, s, p, zb, t, gamma, l)
     }
     // Iterations `from` to `to` - 1. There is none if `to` is not above `from`.
-    pub fn run(self, from: u8, to: u8, s: [Gf; 48]) -> Scaled
+    pub fn run(self, from: u8, to: u8, s: [Gf; SYNDROMES]) -> Scaled
         ensures { λ p. ⌜ scaled (from + (to - from)) p ≡ iterated (iterate-scaled (row s)) from (to - from) (scaled from self) ⌝ }
     {
         let mut p = self;
