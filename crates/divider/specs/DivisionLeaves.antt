@@ -6,7 +6,7 @@
 -- Proved: one symbol up, and the row that the last symbol and the one fed in ask for, is `feed` (feeds). A loop from the last symbol down keeps
 -- `Leaving`, whatever the width of the rows: it begins by leaving-none, goes on by leaving-more, and ends by leaving-all.
 use Prim.Native.Nat.{ℕ, _-_, _≤_, _<_}
-use mathlib.Core.Path.{_≡_, refl, ap, _∙_}
+use mathlib.Core.Path.{_≡_, ap, _∙_}
 use mathlib.Core.List.{List}
 use native.Mathlib.Omega.{arith}
 use lib.ListN.{length, getD}

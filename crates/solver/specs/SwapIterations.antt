@@ -5,7 +5,7 @@
 --
 -- A loop over r from u to v keeps `Iterating`: it begins with iterating-none, goes on by iterating-more, and ends by iterating-all.
 use Prim.Native.Nat.{ℕ, zero, suc, _+_, _-_, _≤_, _<_}
-use mathlib.Core.Path.{_≡_, sym, ap, ap₂, _∙_}
+use mathlib.Core.Path.{_≡_, ap, ap₂, _∙_}
 use native.Mathlib.Omega.{arith}
 
 unfoldable pub iterated : {A : Type 0} → (ℕ → A → A) → ℕ → ℕ → A → A
