@@ -13,17 +13,16 @@ ghost use Rattle.series.specs.Array.{bytes};
 ghost use Rattle.polynomial.specs.Polynomial.{poly};
 ghost use Rattle.settling.specs.Locator.{W};
 ghost use Rattle.settle.specs.CandidateLocated.{Walked};
+use crate::TERMS;
 use field::Exponent;
 use field::Gf;
 use polynomial::COEFFICIENTS;
-
-// Coefficients of a locator of 24 changes.
-pub const TERMS: usize = 25;
+use profile::POSITIONS;
 
 // Whether the walk met as many roots as it should; what was put forward at the positions that it went through.
 pub struct Located {
     pub whole: bool,
-    pub pattern: [Gf; 255],
+    pub pattern: [Gf; POSITIONS],
 }
 
 // The first k coefficients, those of even powers zero.
@@ -64,7 +63,7 @@ fn walk(locator: [Gf; COEFFICIENTS], numerator: &[u8], roots: usize, n: usize) -
     let k = roots + 1;
     let values = crate::positions::values(locator, k);
     let odds = odd_part(locator, k);
-    let mut pattern = [Gf::ZERO; 255];
+    let mut pattern = [Gf::ZERO; POSITIONS];
     let mut missing: usize = roots;
     let mut p: usize = 0;
     while 0 < missing {
@@ -111,7 +110,7 @@ fn locate_one(locator: [Gf; COEFFICIENTS], numerator: &[u8], n: usize) -> Locate
     let i = a.log();
     let j = b.log();
     let p = (j.0 + (255 - i.0)) % 255;
-    let mut pattern = [Gf::ZERO; 255];
+    let mut pattern = [Gf::ZERO; POSITIONS];
     if n <= p {
         return Located {
             whole: false,

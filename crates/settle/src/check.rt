@@ -15,6 +15,7 @@ ghost use Rattle.settling.specs.Definition.{explains?};
 ghost use Rattle.settle.specs.Effect.{Powers, same?};
 use field::Gf;
 use polynomial::SYNDROMES;
+use profile::POSITIONS;
 
 // Whether a pattern explains a row of syndromes, and how many symbols it changes.
 pub struct Tested {
@@ -70,7 +71,7 @@ fn count_change(power: &[u8; 256], count: usize, p: usize, y: Gf, m: usize, to: 
 }
 
 // Of the symbols below n, and m syndromes.
-fn effect_of(pattern: [Gf; 255], n: usize, m: usize) -> Effect
+fn effect_of(pattern: [Gf; POSITIONS], n: usize, m: usize) -> Effect
     requires { ⌜ (n ≤ 255) × (m ≤ 48) ⌝ }
     ensures { λ r. ⌜ (r .count ≡ weight n (values pattern)) × (bytes (r .syndromes) ≡ cut m (syndrome n (values pattern))) ⌝ }
 {
@@ -104,7 +105,7 @@ fn agree(l: [u8; SYNDROMES], row: [Gf; SYNDROMES], m: usize) -> bool
     true
 }
 
-pub fn test(pattern: [Gf; 255], row: [Gf; SYNDROMES], n: usize, t: usize) -> Tested
+pub fn test(pattern: [Gf; POSITIONS], row: [Gf; SYNDROMES], n: usize, t: usize) -> Tested
     requires { ⌜ (n ≤ 255) × (t ≤ 24) ⌝ }
     ensures { λ r. ⌜ (r .count ≡ weight n (values pattern)) × (r .explains ≡ holds (explains? t n (Row row) (values pattern))) ⌝ }
 {

@@ -16,12 +16,16 @@ ghost use Rattle.settle.specs.Answer.{answer, Nothing, Sound};
 use field::Gf;
 use polynomial::COEFFICIENTS;
 use polynomial::SYNDROMES;
+use profile::POSITIONS;
+
+// The terms of a locator of 24 changes.
+const TERMS: usize = 25;
 
 // The pattern that settles a subword, and how many symbols it changes; or that none was found, and then the pattern is zero.
 pub struct Settled {
     pub found: bool,
     pub count: u8,
-    pub pattern: [Gf; 255],
+    pub pattern: [Gf; POSITIONS],
 }
 
 // Nothing was found.
@@ -31,7 +35,7 @@ fn nothing() -> Settled
     Settled {
         found: false,
         count: 0,
-        pattern: [Gf::ZERO; 255],
+        pattern: [Gf::ZERO; POSITIONS],
     }
 }
 
