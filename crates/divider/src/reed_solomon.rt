@@ -21,11 +21,7 @@ pub fn encode(t: &[u64], k: usize, word: &mut [u8])
     let r = crate::division::remainder(t, word, k);
     let checks = crate::packed::unpack(r);
     let s = SYNDROMES - k;
-    let mut p: usize = 0;
-    while p < k {
-        word[p] = checks[s + p];
-        p += 1;
-    }
+    kernel::copy(&checks[s..], &mut word[..k]);
 }
 
 // The first k symbols of a word, the symbols at the top of a remainder added, then zeros.
