@@ -35,11 +35,7 @@ fn first_bytes(from: &[u8], m: usize) -> [u8; TERMS]
     ensures { λ r. ⌜ bytes r ≡ cut m (bytes (now (from .entry))) ⌝ }
 {
     let mut out = [0u8; TERMS];
-    let mut i: usize = 0;
-    while i < m {
-        out[i] = from[i];
-        i = i + 1;
-    }
+    kernel::copy(&from[..m], &mut out[..m]);
     out
 }
 
