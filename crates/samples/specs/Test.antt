@@ -22,7 +22,7 @@ use Rattle.series.specs.Array.{bytes, below-read}
 use Rattle.profile.specs.declared.Profile.{Profile}
 use Rattle.profile.specs.declared.Parsed.{Parsed}
 use Rattle.profile.specs.declared.Parsed.the-variants.{Accepted, Refused}
-use Rattle.profile.specs.Definition.{checks, room, data-start, profile-of, read}
+use Rattle.profile.specs.Definition.{checks, data-length, data-start, profile-of, read}
 use Rattle.profile.specs.Valid.{Valid, profile-read, profile-valid}
 use Rattle.code.specs.Word.{syndrome}
 use Rattle.code.specs.Definition.{subword, Encodes}
@@ -91,7 +91,7 @@ unfoldable pub codeword : Profile → Series → Bool
 codeword p s = all (p .subwords) (λ w. all (checks p w) (λ j. equal (syndrome (p .length) (sums p s w) j) 𝟎))
 
 unfoldable pub carries : Profile → Series → Series → Bool
-carries p d s = all (p .subwords) (λ i. all (room p i) (λ q. equal (subword (p .length) s i (checks p i + q)) (d (data-start p i + q))))
+carries p d s = all (p .subwords) (λ i. all (data-length p i) (λ q. equal (subword (p .length) s i (checks p i + q)) (d (data-start p i + q))))
 
 unfoldable pub encodes : Profile → Series → Series → Bool
 encodes p d s = codeword p s && carries p d s
@@ -102,5 +102,5 @@ encodes-is p ok d s t =
     let (t0, t1) = and-both (codeword p s) _ t in
     record {
       code = sums-codeword p s ok (λ w h j q. equal-is _ _ (all-at (checks p w) _ (all-at (p .subwords) _ t0 w h) j q));
-      carries = λ i h q l. equal-is _ _ (all-at (room p i) _ (all-at (p .subwords) _ t1 i h) q l);
+      carries = λ i h q l. equal-is _ _ (all-at (data-length p i) _ (all-at (p .subwords) _ t1 i h) q l);
     }
