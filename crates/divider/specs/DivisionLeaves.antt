@@ -3,8 +3,9 @@
 --   Leaves row t p l r       r is the remainder, by the polynomial of the table t, of the symbols of l from p on
 --   Leaving row t from l p r   the same on the way down: p is not below `from`, nor above the symbols of l
 --
--- Proved: one symbol up, and the row that the last symbol and the one fed in ask for, is `feed` (feeds). A loop from the last symbol down keeps
--- `Leaving`, whatever the width of the rows: it begins by leaving-none, goes on by leaving-more, and ends by leaving-all.
+-- Proved: one symbol up, and the row that the last symbol and the one fed in ask for, is `feed` (feeds). A loop from the
+-- last symbol down keeps `Leaving`, whatever the width of the rows: it begins by leaving-none, goes on by leaving-more,
+-- and ends by leaving-all.
 use Prim.Native.Nat.{ℕ, _-_, _≤_, _<_}
 use mathlib.Core.Path.{_≡_, ap, _∙_}
 use mathlib.Core.List.{List}
@@ -43,8 +44,8 @@ module _ {row : Rows} {t : List ℕ} {from : ℕ} {l : List ℕ} {p : ℕ} where
   pub leaving-none : length l ≡ p → from ≤ p → Leaving row t from l p none
   leaving-none e h = record { low = h; high = omega arith; leaves = remainder-start _ l p _ e six-zero }
 
-  pub leaving-more : {r q : Packed} → Leaving row t from l p r → from < p → packed q ≡ feed (lower row t) (packed r) (of (getD l (p - 1) 0))
-      → Leaving row t from l (p - 1) q
+  pub leaving-more : {r q : Packed} → Leaving row t from l p r → from < p
+      → packed q ≡ feed (lower row t) (packed r) (of (getD l (p - 1) 0)) → Leaving row t from l (p - 1) q
   leaving-more x h fed = record {
     low = omega arith;
     high = omega (arith, x .high);

@@ -1,6 +1,7 @@
 -- The encoder of one word: what the remainder by the generator holds at the top is the check symbols.
 --
--- Proved: the last k of 48 symbols have room in the first k of a word (room); copied there from the remainder, they make the systematic word (encoded).
+-- Proved: the last k of 48 symbols have room in the first k of a word (room); copied there from the remainder, they make
+-- the systematic word (encoded).
 use Prim.Native.Nat.{ℕ, _-_, _≤_}
 use mathlib.Core.Path.{_≡_, refl, sym, _∙_, ap, ap₂}
 use mathlib.Core.List.{List, _++_}
@@ -20,9 +21,11 @@ use Rattle.code.specs.Word.{systematic}
 use Rattle.divider.specs.ReedSolomonResidue.{residue-table, residue-systematic}
 
 -- the last k of the 48 symbols of a remainder
-top-length : (k : ℕ) (checks : List ℕ) → k ≤ 48 → length checks ≡ 48 → length (take (48 - (48 - k)) (drop-list (48 - k) checks)) ≡ k
+top-length : (k : ℕ) (checks : List ℕ) → k ≤ 48 → length checks ≡ 48
+    → length (take (48 - (48 - k)) (drop-list (48 - k) checks)) ≡ k
 top-length k checks h long =
-    length-take-le (48 - (48 - k)) (drop-list (48 - k) checks) (omega (arith, length-drop (48 - k) checks)) ∙ omega arith
+    length-take-le (48 - (48 - k)) (drop-list (48 - k) checks) (omega (arith, length-drop (48 - k) checks))
+    ∙ omega arith
 
 pub room : (k : ℕ) (checks word : List ℕ) → k ≤ 48 → k ≤ length word → length checks ≡ 48
     → length (take k word) ≡ length (take (48 - (48 - k)) (drop-list (48 - k) checks))
@@ -40,12 +43,15 @@ front-all n k t w r h l p e =
 
 pub encoded : (k : ℕ) (t checks y word : List ℕ) → k ≤ 48 → k ≤ length word → Table 0 k t → length checks ≡ 48
     → bytes checks ≡ remainder (lower (rows k) t) (length word - k) (drop k (bytes word))
-    → y ≡ take (48 - (48 - k)) (drop-list (48 - k) checks) → bytes (y ++ drop-list k word) ≡ systematic (length word) k (bytes word)
+    → y ≡ take (48 - (48 - k)) (drop-list (48 - k) checks)
+    → bytes (y ++ drop-list k word) ≡ systematic (length word) k (bytes word)
 encoded k t checks y word h l p long e copied =
-    front k y word (drop (48 - k) (bytes checks)) (ap length copied ∙ top-length k checks h long) (ap bytes copied ∙ top)
+    front k y word (drop (48 - k) (bytes checks)) (ap length copied ∙ top-length k checks h long)
+    (ap bytes copied ∙ top)
     ∙ front-all (length word) k t (bytes word) (bytes checks) h l p e
   where
     top : bytes (take (48 - (48 - k)) (drop-list (48 - k) checks)) ≡ cut k (drop (48 - k) (bytes checks))
     top =
         let all : 48 - (48 - k) ≡ k = omega arith in
-        read-part of 0 of-zero (48 - k) (48 - (48 - k)) checks (omega (arith, long)) ∙ ap (λ (n : ℕ). cut n (drop (48 - k) (bytes checks))) all
+        read-part of 0 of-zero (48 - k) (48 - (48 - k)) checks (omega (arith, long))
+        ∙ ap (λ (n : ℕ). cut n (drop (48 - k) (bytes checks))) all

@@ -1,7 +1,8 @@
 -- Copies of lists, and parts of lists that are written anew.
 --
--- Proved: a list whose first i entries are those of another has its first i + 1 entries after one more store (copied-more). Where the first k entries
--- of a list are written anew, it is what was written and the list from k on (front); in a list of zeros, what was written alone (front-zeros).
+-- Proved: a list whose first i entries are those of another has its first i + 1 entries after one more store
+-- (copied-more). Where the first k entries of a list are written anew, it is what was written and the list from k on
+-- (front); in a list of zeros, what was written alone (front-zeros).
 use Prim.Native.Nat.{ℕ, _+_, _<_}
 use mathlib.Core.Path.{_≡_, sym, ap, ap₂, _∙_, fun-ext}
 use mathlib.Core.List.{List, _++_}
@@ -34,7 +35,8 @@ front k y w f l e = cut-drop k X ∙ ap₂ (λ (s t : Series). s ⊞ zpow k ⊠ 
     X = bytes (y ++ drop-list k w)
 
     low : cut k X ≡ cut k f
-    low = cut-cong k X f (λ i h. read-left of 0 y (drop-list k w) i (omega arith) ∙ ap (λ (g : Series). g i) e ∙ cut-low k f i h)
+    low = cut-cong k X f (λ i h.
+        read-left of 0 y (drop-list k w) i (omega arith) ∙ ap (λ (g : Series). g i) e ∙ cut-low k f i h)
 
     high : drop k X ≡ drop k (bytes w)
     high = fun-ext (λ i.
@@ -47,7 +49,8 @@ front k y w f l e = cut-drop k X ∙ ap₂ (λ (s t : Series). s ⊞ zpow k ⊠ 
 pub zeros : (r : ℕ) → bytes (replicate r 0) ≡ O
 zeros r = read-zeros of 0 of-zero r O ∙ cut-none O
 
-pub front-zeros : (k r : ℕ) (y : List ℕ) (f : Series) → length y ≡ k → bytes y ≡ cut k f → bytes (y ++ drop-list k (replicate r 0)) ≡ cut k f
+pub front-zeros : (k r : ℕ) (y : List ℕ) (f : Series) → length y ≡ k → bytes y ≡ cut k f
+    → bytes (y ++ drop-list k (replicate r 0)) ≡ cut k f
 front-zeros k r y f l e =
     let none : drop k O ≡ O = fun-ext (λ i. simp (drop-at, O-at)) in
     front k y (replicate r 0) f l e ∙ rw (zeros r, none) (simp ⊠-ring)

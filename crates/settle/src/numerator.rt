@@ -15,7 +15,7 @@ use polynomial::SYNDROMES;
 // How many syndromes a term is multiplied with: more than the numerator needs, so that many are taken at a time.
 const LANES: usize = 32;
 
-// The locator's coefficient c at z^a times the first 32 syndromes is added.
+// Adds the locator's coefficient c at z^a times the first 32 syndromes.
 fn add_term(c: Gf, a: usize, row: [Gf; SYNDROMES], to: &mut [u8])
     requires { ⌜ a + 32 ≤ length (now to) ⌝ }
     ensures { λ _. ⌜ bytes (now (to .exit)) ≡ bytes (now (to .entry)) ⊞ zpow a ⊠ cut 32 (K (val c) ⊠ Row row) ⌝ }
@@ -29,7 +29,7 @@ fn add_term(c: Gf, a: usize, row: [Gf; SYNDROMES], to: &mut [u8])
     }
 }
 
-// The first m bytes.
+// The first m bytes of a word, then zeros.
 fn first_bytes(from: &[u8], m: usize) -> [u8; TERMS]
     requires { ⌜ (m ≤ 25) × (m ≤ length (now from)) ⌝ }
     ensures { λ r. ⌜ bytes r ≡ cut m (bytes (now (from .entry))) ⌝ }

@@ -1,6 +1,6 @@
-// The values of a polynomial at the inverse locations of all positions, three positions at a time. Term i of the value at W p is held as an exponent
-// of α: from a position to the next it loses i, modulo 255, so thirty-two terms go on at once with no product. The 85 positions from p = 0 on do for
-// all 255, since W 85 has order three.
+// The values of a polynomial at the inverse locations of all positions, three positions at a time. Term i of the value
+// at W p is held as an exponent of α: from a position to the next it loses i, modulo 255, so thirty-two terms go on at
+// once with no product. The 85 positions from p = 0 on do for all 255, since W 85 has order three.
 ghost use Prim.Native.Nat.{_+_, _≤_, _<_};
 ghost use mathlib.Core.Path.{_≡_};
 ghost use mathlib.Core.Logic.{ite};
@@ -43,7 +43,7 @@ fn exponent(g: Gf) -> u8
     e.0 as u8
 }
 
-// Of the first k coefficients, the terms at position 0.
+// The terms of the first k coefficients at position 0, as exponents.
 fn exponents(f: [Gf; COEFFICIENTS], k: usize) -> [u8; LANES]
     requires { ⌜ k ≤ 25 ⌝ }
     ensures { λ r. ⌜ symbols r ≡ cut k (poly f) ⌝ }
@@ -68,8 +68,8 @@ fn step(e: u8, i: usize) -> u8
     i as u8
 }
 
-// Of k terms, and nothing after them. A loop over all 32 would be unrolled, and what it makes put together from pieces again in every pass of
-// `values`.
+// What each of k terms loses from a position to the next, and nothing after them. A loop over all 32 would be unrolled,
+// and what it makes put together from pieces again in every pass of `values`.
 fn steps(e: [u8; LANES], k: usize) -> [u8; LANES]
     requires { ⌜ (k ≤ 32) × below k (symbols e) ⌝ }
     ensures { λ r. ⌜ Steps (symbols e) r ⌝ }
@@ -108,7 +108,7 @@ fn next(e: [u8; LANES], step: [u8; LANES]) -> [u8; LANES]
     out
 }
 
-// Term i.
+// Term i as a symbol.
 fn term(power: &[u8; 256], e: &[u8; LANES], i: usize) -> u8
     requires { ⌜ Table (now power) × (length (now e) ≡ 32) × (i < 32) ⌝ }
     ensures { λ r. ⌜ of r ≡ symbols (now (e .entry)) i ⌝ }
@@ -136,7 +136,8 @@ fn sums(power: &[u8; 256], e: &[u8; LANES], k: usize) -> Three
     Three { a: a, b: b, c: c }
 }
 
-// The values at three positions from the sums at the first of them: with w = W 85, w·w is w + 1, so two products are enough.
+// The values at three positions from the sums at the first of them: with w = W 85, w·w is w + 1, so two products are
+// enough.
 fn spread(row: &[u8; 256], s: Three) -> Three
     requires { ⌜ ProductRow (now row) × (factor (now row) ≡ W 85) ⌝ }
     ensures { λ r. ⌜ (of (r .a) ≡ three (W 0) (of (s .a)) (of (s .b)) (of (s .c))) ×

@@ -7,8 +7,8 @@
 --   clip f m          m with the first 49 coefficients of its polynomials: all that an array holds
 --   iterate-clipped f S r m   m after iteration r over S, clipped
 --
--- Proved: what holds in the form that a solver has, holds in the form that it is said to have (for-form); a run of at most 48 syndromes loses
--- nothing by clip (clip-run).
+-- Proved: what holds in the form that a solver has, holds in the form that it is said to have (for-form); a run of at
+-- most 48 syndromes loses nothing by clip (clip-run).
 use Prim.Native.Nat.{ℕ, _≤_}
 use mathlib.Core.Path.{_≡_, sym, _∙_, subst}
 use mathlib.Core.List.{List}
@@ -85,7 +85,9 @@ clip-run Plain rounds h k =
     λ i. record { Λ = all (b .Λ) i; B = all (b .B) i; γ = m .γ; k = m .k }
 clip-run Lookahead rounds h k =
     let b = fits rounds h k .in-lookahead in
-    λ i. lookahead-with (Run.run Run.lookahead rounds k .state) (all (b .Λ) i) (all (b .B) i) (all (b .Δ) i) (all (b .Θ) i)
+    let m = Run.run Run.lookahead rounds k .state in
+    λ i. lookahead-with m (all (b .Λ) i) (all (b .B) i) (all (b .Δ) i) (all (b .Θ) i)
 clip-run Scaled rounds h k =
     let b = fits rounds h k .in-scaled in
-    λ i. scaled-with (Run.run Run.scaled rounds k .state) (all (b .Λ) i) (all (b .B) i) (all (b .Δ) i) (all (b .Θ) i)
+    let m = Run.run Run.scaled rounds k .state in
+    λ i. scaled-with m (all (b .Λ) i) (all (b .B) i) (all (b .Δ) i) (all (b .Θ) i)

@@ -3,7 +3,8 @@
 --   iterated f u n m         m after f, n times, numbered from u on
 --   Iterating f u v m r x    x is m after the iterations from u to r - 1, on the way to v
 --
--- A loop over r from u to v keeps `Iterating`: it begins with iterating-none, goes on by iterating-more, and ends by iterating-all.
+-- A loop over r from u to v keeps `Iterating`: it begins with iterating-none, goes on by iterating-more, and ends by
+-- iterating-all.
 use Prim.Native.Nat.{ℕ, zero, suc, _+_, _-_, _≤_, _<_}
 use mathlib.Core.Path.{_≡_, ap, ap₂, _∙_}
 use native.Mathlib.Omega.{arith}

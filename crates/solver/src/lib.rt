@@ -17,14 +17,14 @@ use crate::scaled::Scaled;
 use field::Gf;
 use polynomial::SYNDROMES;
 
-// Document 01's plain, ahead and scaled.
+// The three forms of the solver: document 01's plain, ahead and scaled.
 pub enum Form {
     Plain,
     Lookahead,
     Scaled,
 }
 
-// The named form's state goes on; the two others stay as they were.
+// A solver in each form at once: the named form's state goes on, and the two others stay as they were.
 pub struct Solver {
     pub form: Form,
     pub plain: Plain,
@@ -33,6 +33,7 @@ pub struct Solver {
 }
 
 impl Solver {
+    // A solver in the named form, before its first round.
     pub fn start(named: Form) -> Solver
         ensures { λ p. ⌜ Is named 0 p (form-of named .start) ⌝ }
     {
@@ -73,7 +74,8 @@ impl Solver {
 
     // Enters a round at u; s is the run's syndromes so far, zeros past the round.
     pub fn enter(self, u: u8, s: [Gf; SYNDROMES]) -> Solver
-        ensures { λ p. ⌜ ((f : Form) (m : form-of f .State) → Is f u self m → Is f u p (form-of f .enter u (row s) m)) ⌝ }
+        ensures { λ p. ⌜ ((f : Form) (m : form-of f .State) → Is f u self m
+            → Is f u p (form-of f .enter u (row s) m)) ⌝ }
     {
         let form = self.form;
         let l = self.lookahead;
@@ -87,7 +89,8 @@ impl Solver {
 
     // Takes the solver through iteration r.
     pub fn iterate(self, r: u8, s: [Gf; SYNDROMES]) -> Solver
-        ensures { λ p. ⌜ ((f : Form) (m : form-of f .State) → Is f r self m → Is f (r + 1) p (clip f (form-of f .iterate r (row s) m))) ⌝ }
+        ensures { λ p. ⌜ ((f : Form) (m : form-of f .State) → Is f r self m
+            → Is f (r + 1) p (clip f (form-of f .iterate r (row s) m))) ⌝ }
     {
         let form = self.form;
         let p = self.plain;
@@ -100,7 +103,8 @@ impl Solver {
         }
     }
 
-    // Iterations `from` to `to` - 1, with one look at the form. There is none if `to` is not above `from`.
+    // Takes the solver through iterations `from` to `to` - 1, with one look at the form; there are none if `to` is not
+    // above `from`.
     pub fn run(self, from: u8, to: u8, s: [Gf; SYNDROMES]) -> Solver
         ensures { λ p. ⌜ ((f : Form) (m : form-of f .State) → Is f from self m
             → Is f (from + (to - from)) p (iterated (iterate-clipped f (row s)) from (to - from) m)) ⌝ }
@@ -152,7 +156,7 @@ impl Solver {
         }
     }
 
-    // k after r iterations.
+    // The number k after r iterations.
     pub fn k(self, r: u8) -> i32
         ensures { λ k. ⌜ ((f : Form) (m : form-of f .State) → Is f r self m → k ≡ k-in f m) ⌝ }
     {

@@ -1,4 +1,5 @@
-// The lookahead form of the key-equation solver: document 003, Algorithm 2. Every scalar is held before the iteration that uses it.
+// The lookahead form of the key-equation solver: document 003, Algorithm 2. Every scalar is held before the iteration
+// that uses it.
 ghost use Prim.Native.Nat.{_+_, _-_};
 ghost use mathlib.Core.Path.{_≡_};
 ghost use mathlib.Core.Bool.{true};
@@ -7,7 +8,8 @@ ghost use Rattle.series.specs.Series.{K, _⊞_, _⊠_};
 ghost use Rattle.series.specs.Shift.{cut};
 ghost use Rattle.polynomial.specs.Polynomial.{poly, row};
 ghost use Rattle.key_equation.specs.Length.{k-of};
-ghost use Rattle.key_equation.specs.Lookahead.{start as Start, enter as Enter, swap as Swap, hold as Hold, iterate as Iterate};
+ghost use Rattle.key_equation.specs.Lookahead.{start as Start, enter as Enter, swap as Swap, hold as Hold};
+ghost use Rattle.key_equation.specs.Lookahead.{iterate as Iterate};
 ghost use Rattle.key_equation.specs.Lookahead.{swapping, next-Λ, next-Δ, next-δS};
 ghost use Rattle.solver.specs.SwapIterations.{iterated};
 ghost use Rattle.solver.specs.LookaheadView.{lookahead, clip-lookahead, iterate-lookahead};
@@ -18,9 +20,10 @@ use polynomial::SYNDROMES;
 use polynomial::product;
 use polynomial::syndromes::coefficient;
 
-// Λ, B, γ, the length L and the sums Δ and Θ; then what is held for iteration r, S being the syndromes so far and δ, θ the constant terms
-// of Δ and Θ: gamma_s is γ S_(r+1), delta_s is δ S_(r+1), theta_s is θ S_(r+2), g1 is S_(r+1) S_(r+3), g2 is S_(r+2) S_(r+3), h1 is γ S_(r+2),
-// h2 is γ S_(r+1) S_(r+2). After r iterations k is r - 2L.
+// The state of the lookahead form: Λ, B, γ, the length L and the sums Δ and Θ; then what is held for iteration r, S
+// being the syndromes so far and δ, θ the constant terms of Δ and Θ: gamma_s is γ S_(r+1), delta_s is δ S_(r+1),
+// theta_s is θ S_(r+2), g1 is S_(r+1) S_(r+3), g2 is S_(r+2) S_(r+3), h1 is γ S_(r+2), h2 is γ S_(r+1) S_(r+2). After r
+// iterations k is r - 2L.
 pub struct Lookahead {
     pub locator: [Gf; COEFFICIENTS],
     pub auxiliary: [Gf; COEFFICIENTS],
@@ -37,7 +40,7 @@ pub struct Lookahead {
     pub h2: Gf,
 }
 
-// a b + c d
+// The sum of products a b + c d.
 fn two_products(a: Gf, b: Gf, c: Gf, d: Gf) -> Gf
     ensures { λ r. ⌜ val r ≡ val a ⊙ val b ⊕ val c ⊙ val d ⌝ }
 {
@@ -46,7 +49,7 @@ fn two_products(a: Gf, b: Gf, c: Gf, d: Gf) -> Gf
     p.sum(q)
 }
 
-// f + a g
+// The polynomial f + a g.
 fn add_multiple(f: [Gf; COEFFICIENTS], a: Gf, g: [Gf; COEFFICIENTS]) -> [Gf; COEFFICIENTS]
     ensures { λ r. ⌜ poly r ≡ poly f ⊞ K (val a) ⊠ poly g ⌝ }
 {
@@ -55,6 +58,7 @@ fn add_multiple(f: [Gf; COEFFICIENTS], a: Gf, g: [Gf; COEFFICIENTS]) -> [Gf; COE
 }
 
 impl Lookahead {
+    // The state before the first round.
     pub fn start() -> Lookahead
         ensures { λ p. ⌜ lookahead 0 p ≡ Start ⌝ }
     {
@@ -77,7 +81,7 @@ impl Lookahead {
         }
     }
 
-    // Enters a round at u.
+    // Takes the state into a round that begins at u.
     pub fn enter(self, u: u8, s: [Gf; SYNDROMES]) -> Lookahead
         ensures { λ p. ⌜ lookahead u p ≡ Enter u (row s) (lookahead u self) ⌝ }
     {
@@ -109,7 +113,7 @@ impl Lookahead {
         }
     }
 
-    // Lines 1 to 3. They do not look at k.
+    // The next Λ. Lines 1 to 3, which make it and the next Δ and δ_S, do not look at k.
     fn next_locator(self) -> [Gf; COEFFICIENTS]
         ensures { λ f. ⌜ poly f ≡ cut 49 (next-Λ (lookahead 0 self)) ⌝ }
     {
@@ -120,6 +124,7 @@ impl Lookahead {
         polynomial::combine(self.gamma, f, delta[0], zb)
     }
 
+    // The next Δ.
     fn next_delta(self) -> [Gf; COEFFICIENTS]
         ensures { λ f. ⌜ poly f ≡ cut 49 (next-Δ (lookahead 0 self)) ⌝ }
     {
@@ -134,6 +139,7 @@ impl Lookahead {
         polynomial::sum(left, right)
     }
 
+    // The next δ_S.
     fn next_delta_s(self) -> Gf
         ensures { λ d. ⌜ val d ≡ next-δS (lookahead 0 self) ⌝ }
     {
@@ -156,7 +162,8 @@ impl Lookahead {
         theta_s: Gf,
     ) -> Lookahead
         ensures { λ p. ⌜ lookahead (r + 1) p ≡
-            stepped r (row s) (lookahead r self) (poly auxiliary) (val gamma) (k-of (r + 1) length) (poly theta) (val «theta_s») ⌝ }
+            stepped r (row s) (lookahead r self) (poly auxiliary) (val gamma) (k-of (r + 1) length)
+            (poly theta) (val «theta_s») ⌝ }
     {
         let at = r as usize;
         let s2 = coefficient(s, at + 2);
@@ -212,7 +219,7 @@ impl Lookahead {
         self.step(r, s, zb, self.gamma, self.length, next, theta_s)
     }
 
-    // Iteration r. Polynomials have 49 coefficients: what would be above is lost.
+    // Takes the state through iteration r. Polynomials have 49 coefficients: what would be above is lost.
     pub fn iterate(self, r: u8, s: [Gf; SYNDROMES]) -> Lookahead
         ensures { λ p. ⌜ lookahead (r + 1) p ≡ clip-lookahead (Iterate r (row s) (lookahead r self)) ⌝ }
     {
@@ -222,9 +229,11 @@ impl Lookahead {
         }
         self.hold(r, s)
     }
-    // Iterations `from` to `to` - 1. There is none if `to` is not above `from`.
+
+    // Takes the state through iterations `from` to `to` - 1; there are none if `to` is not above `from`.
     pub fn run(self, from: u8, to: u8, s: [Gf; SYNDROMES]) -> Lookahead
-        ensures { λ p. ⌜ lookahead (from + (to - from)) p ≡ iterated (iterate-lookahead (row s)) from (to - from) (lookahead from self) ⌝ }
+        ensures { λ p. ⌜ lookahead (from + (to - from)) p ≡
+            iterated (iterate-lookahead (row s)) from (to - from) (lookahead from self) ⌝ }
     {
         let mut p = self;
         let mut r = from;

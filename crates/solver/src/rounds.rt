@@ -20,6 +20,7 @@ pub struct Progress {
     pub swapped: [bool; SYNDROMES],
 }
 
+// The lesser of two numbers.
 fn least(a: usize, b: usize) -> usize
     ensures { λ r. ⌜ r ≡ min a b ⌝ }
 {
@@ -29,7 +30,7 @@ fn least(a: usize, b: usize) -> usize
     b
 }
 
-// The first n syndromes, then zeros.
+// A row of the first n syndromes, then zeros.
 fn first(bytes: &[u8], n: usize) -> [Gf; SYNDROMES]
     requires { ⌜ n ≤ length (syndromes-of (now bytes)) ⌝ }
     ensures { λ s. ⌜ row s ≡ entry (take n (syndromes-of (now (bytes .entry)))) ⌝ }
@@ -46,7 +47,8 @@ fn first(bytes: &[u8], n: usize) -> [Gf; SYNDROMES]
 // How many syndromes there are when the next round has been entered: a round takes what is left.
 fn reach(known: usize, entered: usize, syndromes: &[u8], lengths: &[u8]) -> usize
     requires { ⌜ (known ≤ 48) × (entered < length (now lengths)) ⌝ }
-    ensures { λ n. ⌜ n ≡ min (known + getD (now (lengths .entry)) entered 0) (length (syndromes-of (now (syndromes .entry)))) ⌝ }
+    ensures { λ n. ⌜ n ≡
+        min (known + getD (now (lengths .entry)) entered 0) (length (syndromes-of (now (syndromes .entry)))) ⌝ }
 {
     let all = least(syndromes.len(), SYNDROMES);
     least(known + lengths[entered] as usize, all)
@@ -62,7 +64,8 @@ struct Walk {
 
 // Whether the run is over.
 fn over(w: Walk, lengths: &[u8]) -> bool
-    ensures { λ b. ⌜ b ≡ leb (w .known) (w .progress .iterations) && leb (length (now (lengths .entry))) (w .entered) ⌝ }
+    ensures { λ b. ⌜ b ≡ leb (w .known) (w .progress .iterations)
+        && leb (length (now (lengths .entry))) (w .entered) ⌝ }
 {
     let p = w.progress;
     if (p.iterations as usize) < w.known {
@@ -74,7 +77,8 @@ fn over(w: Walk, lengths: &[u8]) -> bool
 // The next event: an iteration while there are syndromes for one, then the next round's entry.
 fn next(w: Walk, syndromes: &[u8], lengths: &[u8]) -> Walk
     requires { ⌜ Going (length (now lengths)) w ⌝ }
-    ensures { λ q. ⌜ ((form : Form) (n : ℕ) → Arrived form (syndromes-of (now (syndromes .entry))) (now (lengths .entry)) n w
+    ensures { λ q. ⌜ ((form : Form) (n : ℕ)
+        → Arrived form (syndromes-of (now (syndromes .entry))) (now (lengths .entry)) n w
         → Arrived form (syndromes-of (now (syndromes .entry))) (now (lengths .entry)) (n + 1) q) ⌝ }
 {
     let p = w.progress;
@@ -113,8 +117,9 @@ fn next(w: Walk, syndromes: &[u8], lengths: &[u8]) -> Walk
     }
 }
 
-// The first `events` entries and iterations of the run over the rounds that are lent: `lengths` cuts the syndromes into rounds. Syndromes after
-// the 48th are not looked at, and a round takes what is left. A run that is over stays at its end.
+// The first `events` entries and iterations of the run over the rounds that are lent: `lengths` cuts the syndromes into
+// rounds. Syndromes after the 48th are not looked at, and a round takes what is left. A run that is over stays at its
+// end.
 pub fn run(form: Form, syndromes: &[u8], lengths: &[u8], events: usize) -> Progress
     ensures { λ p. ⌜ Ran form (rounds-of (now (syndromes .entry)) (now (lengths .entry))) events p ⌝ }
 {

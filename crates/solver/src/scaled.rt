@@ -1,4 +1,5 @@
-// The scaled form of the key-equation solver: document 01's text. Four products of a scalar and a polynomial serve every line of an iteration.
+// The scaled form of the key-equation solver: document 01's text. Four products of a scalar and a polynomial serve
+// every line of an iteration.
 ghost use Prim.Native.Nat.{ℕ, _+_, _-_};
 ghost use mathlib.Core.Path.{_≡_};
 ghost use mathlib.Core.Bool.{cond};
@@ -7,7 +8,8 @@ ghost use Rattle.series.specs.Series.{_⊞_, _⊠_, K, Z};
 ghost use Rattle.series.specs.Shift.{cut};
 ghost use Rattle.polynomial.specs.Polynomial.{poly, row};
 ghost use Rattle.key_equation.specs.Length.{k-of};
-ghost use Rattle.key_equation.specs.Scaled.{unless, ratio as Ratio, holding as Holding, start as Start, enter as Enter, iterate as Iterate};
+ghost use Rattle.key_equation.specs.Scaled.{unless, ratio as Ratio, holding as Holding, start as Start, enter as Enter};
+ghost use Rattle.key_equation.specs.Scaled.{iterate as Iterate};
 ghost use Rattle.solver.specs.SwapIterations.{iterated};
 ghost use Rattle.solver.specs.ScaledView.{scaled, clip-scaled, iterate-scaled, Products-of, stepped};
 use field::Gf;
@@ -16,8 +18,9 @@ use polynomial::SYNDROMES;
 use polynomial::product;
 use polynomial::syndromes::coefficient;
 
-// Λ, B, γ', the length L, Δ and Θ. After r iterations k is r - 2L, and the scalars are held for iteration r: with d the constant term of Δ,
-// g = S'_(r+1)/S'_r, ρ is γ' or 1 if d = 0, ξ is d, ρ_S is gρ and ξ_S is gξ.
+// The state of the scaled form: Λ, B, γ', the length L, Δ and Θ. After r iterations k is r - 2L, and the scalars are
+// held for iteration r: with d the constant term of Δ, g = S'_(r+1)/S'_r, ρ is γ' or 1 if d = 0, ξ is d, ρ_S is gρ and
+// ξ_S is gξ.
 pub struct Scaled {
     pub locator: [Gf; COEFFICIENTS],
     pub auxiliary: [Gf; COEFFICIENTS],
@@ -40,7 +43,7 @@ struct Products {
     theta: [Gf; COEFFICIENTS],
 }
 
-// x, or 1 where d is 0.
+// The symbol x, or 1 where d is 0.
 fn one_if_zero(d: Gf, x: Gf) -> Gf
     ensures { λ r. ⌜ val r ≡ cond (isZero (val d)) 𝟏 (val x) ⌝ }
 {
@@ -50,7 +53,7 @@ fn one_if_zero(d: Gf, x: Gf) -> Gf
     x
 }
 
-// t + f, or t where x is 0.
+// The polynomial t + f, or t where x is 0.
 fn sum_unless(x: Gf, t: [Gf; COEFFICIENTS], f: [Gf; COEFFICIENTS]) -> [Gf; COEFFICIENTS]
     ensures { λ r. ⌜ poly r ≡ poly t ⊞ unless (val x) (poly f) ⌝ }
 {
@@ -60,7 +63,7 @@ fn sum_unless(x: Gf, t: [Gf; COEFFICIENTS], f: [Gf; COEFFICIENTS]) -> [Gf; COEFF
     polynomial::sum(t, f)
 }
 
-// a zf. The top coefficient of f is lost.
+// The polynomial a zf, where the top coefficient of f is lost.
 fn scale_shifted(a: Gf, f: [Gf; COEFFICIENTS]) -> [Gf; COEFFICIENTS]
     ensures { λ r. ⌜ poly r ≡ cut 49 (K (val a) ⊠ (Z ⊠ poly f)) ⌝ }
 {
@@ -68,7 +71,7 @@ fn scale_shifted(a: Gf, f: [Gf; COEFFICIENTS]) -> [Gf; COEFFICIENTS]
     polynomial::scale(a, zf)
 }
 
-// g for iteration r.
+// The ratio g for iteration r.
 fn ratio(r: u16, s: [Gf; SYNDROMES]) -> Gf
     ensures { λ g. ⌜ val g ≡ Ratio r (row s) ⌝ }
 {
@@ -79,7 +82,7 @@ fn ratio(r: u16, s: [Gf; SYNDROMES]) -> Gf
     product(above, below.inverse())
 }
 
-// The state with these, and the scalars for iteration r.
+// The state with these polynomials, γ' and length, and the scalars for iteration r.
 fn holding(
     r: u16,
     s: [Gf; SYNDROMES],
@@ -90,7 +93,8 @@ fn holding(
     delta: [Gf; COEFFICIENTS],
     theta: [Gf; COEFFICIENTS],
 ) -> Scaled
-    ensures { λ p. ⌜ scaled r p ≡ Holding r (row s) (poly locator) (poly auxiliary) (val gamma) (k-of r length) (poly delta) (poly theta) ⌝ }
+    ensures { λ p. ⌜ scaled r p ≡
+        Holding r (row s) (poly locator) (poly auxiliary) (val gamma) (k-of r length) (poly delta) (poly theta) ⌝ }
 {
     let d = delta[0];
     let g = ratio(r, s);
@@ -112,7 +116,8 @@ fn holding(
     }
 }
 
-// The state for iteration r, from the products of the one before: B becomes b, and Θ becomes t with b added unless S_r = 0.
+// The state for iteration r, from the products of the one before: B becomes b, and Θ becomes t with b added unless S_r
+// = 0.
 fn step(
     r: u16,
     s: [Gf; SYNDROMES],
@@ -122,7 +127,8 @@ fn step(
     gamma: Gf,
     length: u16,
 ) -> Scaled
-    ensures { λ q. ⌜ scaled r q ≡ stepped r (row s) (poly (p .locator)) (poly (p .auxiliary)) (poly (p .delta)) (poly (p .theta))
+    ensures { λ q. ⌜ scaled r q ≡
+        stepped r (row s) (poly (p .locator)) (poly (p .auxiliary)) (poly (p .delta)) (poly (p .theta))
         (poly b) (poly t) (val gamma) (k-of r length) ⌝ }
 {
     let f = p.locator;
@@ -138,6 +144,7 @@ fn step(
 }
 
 impl Scaled {
+    // The state before the first round.
     pub fn start() -> Scaled
         ensures { λ p. ⌜ scaled 0 p ≡ Start ⌝ }
     {
@@ -158,7 +165,7 @@ impl Scaled {
         }
     }
 
-    // Enters a round at u. Δ and Θ take Λ and B as they were.
+    // Takes the state into a round that begins at u. Δ and Θ take Λ and B as they were.
     pub fn enter(self, u: u8, s: [Gf; SYNDROMES]) -> Scaled
         ensures { λ p. ⌜ scaled u p ≡ Enter u (row s) (scaled u self) ⌝ }
     {
@@ -186,8 +193,10 @@ impl Scaled {
         )
     }
 
+    // The four products of the next iteration.
     fn products(self) -> Products
-        ensures { λ p. ⌜ ((r : ℕ) → Products-of (scaled r self) (poly (p .locator)) (poly (p .auxiliary)) (poly (p .delta)) (poly (p .theta))) ⌝ }
+        ensures { λ p. ⌜ ((r : ℕ) → Products-of (scaled r self) (poly (p .locator)) (poly (p .auxiliary))
+            (poly (p .delta)) (poly (p .theta))) ⌝ }
     {
         let f = self.locator;
         let b = self.auxiliary;
@@ -201,7 +210,7 @@ impl Scaled {
         }
     }
 
-    // Iteration r. Polynomials have 49 coefficients: what would be above is lost.
+    // Takes the state through iteration r. Polynomials have 49 coefficients: what would be above is lost.
     pub fn iterate(self, r: u8, s: [Gf; SYNDROMES]) -> Scaled
         ensures { λ p. ⌜ scaled (r + 1) p ≡ clip-scaled (Iterate r (row s) (scaled r self)) ⌝ }
     {
@@ -228,9 +237,11 @@ impl Scaled {
         let gamma = product(self.xi, self.gamma);
         step(n, s, p, zb, t, gamma, l)
     }
-    // Iterations `from` to `to` - 1. There is none if `to` is not above `from`.
+
+    // Takes the state through iterations `from` to `to` - 1; there are none if `to` is not above `from`.
     pub fn run(self, from: u8, to: u8, s: [Gf; SYNDROMES]) -> Scaled
-        ensures { λ p. ⌜ scaled (from + (to - from)) p ≡ iterated (iterate-scaled (row s)) from (to - from) (scaled from self) ⌝ }
+        ensures { λ p. ⌜ scaled (from + (to - from)) p ≡
+            iterated (iterate-scaled (row s)) from (to - from) (scaled from self) ⌝ }
     {
         let mut p = self;
         let mut r = from;

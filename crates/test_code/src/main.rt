@@ -1,4 +1,5 @@
-// Asks about profiles, writes blocks and fetches subwords, as the cases of standard input say, and prints a line for each:
+// Asks about profiles, writes blocks and fetches subwords, as the cases of standard input say, and prints a line for
+// each:
 //
 //     profile BYTES | its number, data size (0 if refused)
 //     write PROFILE | data size, output size | its number | the output, which held 170 everywhere before
@@ -6,9 +7,10 @@
 //
 // `stdout` holds the same lines from an independent model.
 //
-// Standard input is the number of cases and the cases. A case is a byte, 0 for a profile, 1 for a write and 2 for a fetch; a byte with the size of
-// the profile, and the profile; for a write the size of the data, the data and the size of the output; for a fetch the size of the block, the block
-// and the number of the subword. These numbers have two bytes, the high byte first.
+// Standard input is the number of cases and the cases. A case is a byte, 0 for a profile, 1 for a write and 2 for a
+// fetch; a byte with the size of the profile, and the profile; for a write the size of the data, the data and the size
+// of the output; for a fetch the size of the block, the block and the number of the subword. These numbers have two
+// bytes, the high byte first.
 use profile::Answer;
 use profile::Parsed;
 use test_support::input;

@@ -1,4 +1,5 @@
-// Settles rows of syndromes by what the solver finds in each form, as the cases of standard input say, and prints a line for each:
+// Settles rows of syndromes by what the solver finds in each form, as the cases of standard input say, and prints a
+// line for each:
 //
 //     FORM | t, n | settled or failed, how many symbols change | position and change of each
 //
@@ -37,7 +38,13 @@ fn settle(form: Form, syndromes: &[u8], n: usize, t: usize) -> Settled
     let lengths = [m as u8];
     let end = solver::rounds::run(form, syndromes, &lengths, m + 1);
     let s = end.solver;
-    settle::settle(solver::continuation::locator(s), s.length() as usize, row(syndromes), n, t)
+    settle::settle(
+        solver::continuation::locator(s),
+        s.length() as usize,
+        row(syndromes),
+        n,
+        t,
+    )
 }
 
 fn change(position: usize, y: Gf) {

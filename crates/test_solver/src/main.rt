@@ -1,8 +1,9 @@
-// Runs lists of rounds in each form and prints where each run ends, a line each: form, iterations, k and length; the swaps; Λ, B and γ; where the form has
-// them, Δ, Θ and the held scalars; then a number that depends on every state that the run was in, from its start on.
-// `stdout` holds the same lines from an independent model.
+// Runs lists of rounds in each form and prints where each run ends, a line each: form, iterations, k and length; the
+// swaps; Λ, B and γ; where the form has them, Δ, Θ and the held scalars; then a number that depends on every state that
+// the run was in, from its start on. `stdout` holds the same lines from an independent model.
 //
-// A list of rounds on standard input is a byte with the number of rounds, one with the number of syndromes, the rounds' lengths, the syndromes.
+// A list of rounds on standard input is a byte with the number of rounds, one with the number of syndromes, the rounds'
+// lengths, the syndromes.
 mod digest;
 mod swaps;
 

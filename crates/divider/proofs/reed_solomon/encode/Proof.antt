@@ -50,8 +50,8 @@ returns c =
     let checks = copied .before .before .before .before in
     let given = checks .before .before .before .before .before in
     let long : length (checks .unpack .result) ≡ 48 = search needs in
-    encoded (given .args .k) (given .args .t .now) (checks .unpack .result) _ (given .args .word .now) (given .pre .1) (given .pre .2) (given .pre .0) long
-    (checks .unpack .ensures ∙ checks .before .remainder .ensures) (copied .copy .ensures)
+    encoded (given .args .k) (given .args .t .now) (checks .unpack .result) _ (given .args .word .now)
+    (given .pre .1) (given .pre .2) (given .pre .0) long (checks .unpack .ensures ∙ checks .before .remainder .ensures) (copied .copy .ensures)
 
 pub encode-spec : {M : Type 1} → statement M
 encode-spec =

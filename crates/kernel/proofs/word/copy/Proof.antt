@@ -10,7 +10,8 @@ use Rattle.kernel.proofs.word.copy.Statement.{statement}
 use Rattle.kernel.proofs.word.copy.Tie as tie
 
 abbrev Inv-loop : tie.InvT-loop
-Inv-loop from to₀ i₀ to i = (i ≤ length from) × (length to ≡ length from) × ((k : ℕ) → k < i → getD to k 0 ≡ getD from k 0)
+Inv-loop from to₀ i₀ to i =
+    (i ≤ length from) × (length to ≡ length from) × ((k : ℕ) → k < i → getD to k 0 ≡ getD from k 0)
 
 abbrev μ-loop : tie.MeasureT-loop
 μ-loop from to₀ i₀ to i = length from - i

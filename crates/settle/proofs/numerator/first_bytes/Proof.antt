@@ -17,7 +17,9 @@ array-borrow-prefix-out : tie.Need-array-borrow-prefix-out
 array-borrow-prefix-out c = search needs
 
 slice-aggregate-copy-2 : tie.Need-slice-aggregate-copy-2
-slice-aggregate-copy-2 c = let given = c .before .before .before in sym (length-take-le (given .args .m) _ (given .pre .0))
+slice-aggregate-copy-2 c =
+    let given = c .before .before .before in
+    sym (length-take-le (given .args .m) _ (given .pre .0))
 
 copy-requires : tie.Need-copy-requires
 copy-requires c κs =

@@ -39,19 +39,22 @@ returns : tie.Need-returns
 returns c =
     let gone = c .before in
     let e = gone .before .enum-told .given .1 in
-    for-form _ _ _ e (c .with-plain .ensures .0 ∙ e, ap (plain _) (c .with-plain .ensures .1) ∙ gone .iterate .ensures)
+    let (form, state) = c .with-plain .ensures in
+    for-form _ _ _ e (form ∙ e, ap (plain _) state ∙ gone .iterate .ensures)
 
 returns-2 : tie.Need-returns-2
 returns-2 c =
     let gone = c .before in
     let e = gone .before .enum-told2 .given .1 in
-    for-form _ _ _ e (c .with-lookahead .ensures .0 ∙ e, ap (lookahead _) (c .with-lookahead .ensures .1) ∙ gone .iterate2 .ensures)
+    let (form, state) = c .with-lookahead .ensures in
+    for-form _ _ _ e (form ∙ e, ap (lookahead _) state ∙ gone .iterate2 .ensures)
 
 returns-3 : tie.Need-returns-3
 returns-3 c =
     let gone = c .before in
     let e = gone .before .enum-told3 .given .1 in
-    for-form _ _ _ e (c .with-scaled .ensures .0 ∙ e, ap (scaled _) (c .with-scaled .ensures .1) ∙ gone .iterate3 .ensures)
+    let (form, state) = c .with-scaled .ensures in
+    for-form _ _ _ e (form ∙ e, ap (scaled _) state ∙ gone .iterate3 .ensures)
 
 pub iterate-spec : {M : Type 1} → statement M
 iterate-spec =

@@ -10,7 +10,8 @@ use Rattle.divider.proofs.division.narrow.remainders.Tie as tie
 
 abbrev Inv-loop : tie.InvT-loop
 Inv-loop t a b c d from q₀ r₀ u₀ v₀ p₀ q r u v p =
-    Leaving narrow t from a p q × Leaving narrow t from b p r × Leaving narrow t from c p u × Leaving narrow t from d p v
+    Leaving narrow t from a p q × Leaving narrow t from b p r
+    × Leaving narrow t from c p u × Leaving narrow t from d p v
 
 abbrev μ-loop : tie.MeasureT-loop
 μ-loop t a b c d from q₀ r₀ u₀ v₀ p₀ q r u v p = p - from

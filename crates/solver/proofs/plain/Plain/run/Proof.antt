@@ -16,7 +16,8 @@ use Rattle.solver.proofs.plain.Plain.run.Tie as tie
 
 abbrev Inv-loop : tie.InvT-loop
 Inv-loop from to table p₀ r₀ p r =
-    (S : Series) → below 48 S → bytes table ≡ reversed 95 S → Iterating (iterate-plain S) from to (plain from p₀) r (plain r p)
+    (S : Series) → below 48 S → bytes table ≡ reversed 95 S
+    → Iterating (iterate-plain S) from to (plain from p₀) r (plain r p)
 
 abbrev μ-loop : tie.MeasureT-loop
 μ-loop from to table p₀ r₀ p r = to - r
@@ -48,12 +49,13 @@ loop-again c =
     let found = c .before in
     let now = found .before .before .before .before .loop in
     λ S b e. iterating-more (now .inv S b e) (omega arith)
-        (c .step .ensures S (found .convolve-reversed .ensures S b e ∙ sym (δ-convolution _ _ _)))
+    (c .step .ensures S (found .convolve-reversed .ensures S b e ∙ sym (δ-convolution _ _ _)))
 
 returns : tie.Need-returns Inv-loop μ-loop
 returns c =
     let end = c .before .loop in
-    iterating-all (λ r. plain r (end .p)) (end .inv _ (below-row _) (c .before .before .reversed .ensures)) (omega arith)
+    let table = c .before .before .reversed .ensures in
+    iterating-all (λ r. plain r (end .p)) (end .inv _ (below-row _) table) (omega arith)
 
 pub run-spec : {M : Type 1} → statement M
 run-spec =
