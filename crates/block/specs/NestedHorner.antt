@@ -4,22 +4,22 @@
 --
 -- Proved: α^l times what the subwords from i + 1 on bring, and subword i, is what those from i on bring; so a loop begins with zeros (horner-none), goes on
 -- (horner-more), and ends at the nested word (tails-all). The symbols of a word are doubled one by one (twice-none, twice-more, twice-all), α^d is one power
--- more (power-none, power-more), and a word that was made in the first n of r zeros has zeros after it (prefix-zeros, prefix-back).
+-- more (power-none, power-more), and the first n of r zeros are zero (prefix-zeros).
 use Prim.Native.Nat.{ℕ, suc, _+_, _-_, _*_, _≤_, _<_}
 use mathlib.Core.Path.{_≡_, sym, ap, ap₂, _∙_, fun-ext}
-use mathlib.Core.List.{List, _++_}
-use native.Mathlib.Decide.{decLt}
+use mathlib.Core.List.{List}
 use native.Mathlib.Nat.{zero-add, suc-add, add-zero, add-suc, sub-zero, zero-mul, suc-mul}
 use native.Mathlib.Numerals.{add-one}
 use native.Mathlib.Omega.{arith}
-use lib.ListN.{length, set, take, drop, replicate, length-replicate}
+use lib.ListN.{length, set, take, replicate, length-replicate}
 use Rattle.field.specs.Field.{F, 𝟏, α, _⊕_, _⊙_, ⊕-comm, ⊕-zero, ⊙-zero, one-⊙, ⊙-ring, pow, pow-zero, pow-suc, pow-add, of, of-zero}
 use Rattle.series.specs.Sum.{sum, sum-none, sum-head, sum-cong, ⊙-sum}
 use Rattle.series.specs.Series.{Series, O, O-at, K, _⊞_, _⊠_, ⊠-ring, ⊞-at, K-⊠-at, K-⊕, K-⊙, ⊠-assoc, one-⊠}
-use Rattle.series.specs.Shift.{cut, cut-none, cut-high, cut-⊞, cut-K-⊠}
+use Rattle.series.specs.Shift.{cut, cut-high, cut-⊞, cut-K-⊠}
 use Rattle.series.specs.Degree.{below-O, below-weaken, below-cut-eq}
-use Rattle.series.specs.Array.{bytes, read-zeros, below-read}
-use Rattle.series.specs.Part.{read-left, read-right, read-drop, read-prefix}
+use Rattle.series.specs.Array.{bytes, below-read}
+pub use Rattle.kernel.specs.Copy.{zeros}
+use Rattle.series.specs.Part.{read-prefix}
 use Rattle.kernel.specs.Store.{multiple-none, multiple-more}
 use Rattle.profile.specs.declared.Profile.{Profile}
 use Rattle.code.specs.Definition.{subword, nested}
@@ -103,25 +103,8 @@ power-none f = rw pow-zero (sym (one-⊠ f))
 pub power-more : (d : ℕ) (f g h : Series) → g ≡ K (pow α d) ⊠ f → h ≡ K α ⊠ g → h ≡ K (pow α (d + 1)) ⊠ f
 power-more d f g h eg eh = eh ∙ ap (λ (g : Series). K α ⊠ g) eg ∙ rw (add-one, pow-suc, K-⊙) (sym (⊠-assoc _ _ f))
 
--- ---- the first n of r zeros are lent, and come back as the word
-
-pub zeros : (r : ℕ) → bytes (replicate r 0) ≡ O
-zeros r = read-zeros of 0 of-zero r O ∙ cut-none O
+-- ---- the first n of r zeros
 
 pub prefix-zeros : (n r : ℕ) → n ≤ r → bytes (take n (replicate r 0)) ≡ O
 prefix-zeros n r h =
     read-prefix of 0 of-zero n (replicate r 0) (omega (arith, length-replicate {A = ℕ} r 0)) ∙ ap (cut n) (zeros r) ∙ below-cut-eq n O (below-O n)
-
-pub prefix-back : (n r : ℕ) (y : List ℕ) (f : Series) → length y ≡ n → bytes y ≡ cut n f → bytes (y ++ drop n (replicate r 0)) ≡ cut n f
-prefix-back n r y f l e = fun-ext (λ q. go q (decLt q n))
-  where
-    go : (q : ℕ) → Dec (q < n) → bytes (y ++ drop n (replicate r 0)) q ≡ cut n f q
-    go q (yes h) = read-left of 0 y (drop n (replicate r 0)) q (omega arith) ∙ ap (λ (g : Series). g q) e
-    go q (no h) =
-        let x : q ≡ length y + (q - n) = omega arith in
-        ap (bytes (y ++ drop n (replicate r 0))) x
-        ∙ read-right of 0 y (drop n (replicate r 0)) (q - n)
-        ∙ read-drop of 0 n (replicate r 0) (q - n)
-        ∙ ap (λ (g : Series). g (n + (q - n))) (zeros r)
-        ∙ O-at (n + (q - n))
-        ∙ sym (cut-high n f q (omega arith))

@@ -14,7 +14,8 @@ use profile::Profile;
 // Subword i of a block is added to the word.
 pub fn add_subword(p: Profile, block: &[u8], i: usize, word: &mut [u8])
     requires { ⌜ Fits p (now block) × (i < p .subwords) × (p .length ≤ length (now word)) ⌝ }
-    ensures { λ _. ⌜ bytes (now (word .exit)) ≡ bytes (now (word .entry)) ⊞ cut (p .length) (subword (p .length) (bytes (now (block .entry))) i) ⌝ }
+    ensures { λ _. ⌜ bytes (now (word .exit)) ≡
+        bytes (now (word .entry)) ⊞ cut (p .length) (subword (p .length) (bytes (now (block .entry))) i) ⌝ }
 {
     let n = p.length as usize;
     let a = i * n;
@@ -25,7 +26,8 @@ pub fn add_subword(p: Profile, block: &[u8], i: usize, word: &mut [u8])
 // c times it, by a row of products.
 fn add_by_row(p: Profile, c: Gf, block: &[u8], i: usize, word: &mut [u8])
     requires { ⌜ Fits p (now block) × (i < p .subwords) × (p .length ≤ length (now word)) ⌝ }
-    ensures { λ _. ⌜ bytes (now (word .exit)) ≡ bytes (now (word .entry)) ⊞ K (val c) ⊠ cut (p .length) (subword (p .length) (bytes (now (block .entry))) i) ⌝ }
+    ensures { λ _. ⌜ bytes (now (word .exit)) ≡
+        bytes (now (word .entry)) ⊞ K (val c) ⊠ cut (p .length) (subword (p .length) (bytes (now (block .entry))) i) ⌝ }
 {
     let n = p.length as usize;
     let row = kernel::product_row(c);
@@ -37,7 +39,8 @@ fn add_by_row(p: Profile, c: Gf, block: &[u8], i: usize, word: &mut [u8])
 // c times subword i of a block is added to the word. Where c is one no row of products is made.
 pub fn add_multiple(p: Profile, c: Gf, block: &[u8], i: usize, word: &mut [u8])
     requires { ⌜ Fits p (now block) × (i < p .subwords) × (p .length ≤ length (now word)) ⌝ }
-    ensures { λ _. ⌜ bytes (now (word .exit)) ≡ bytes (now (word .entry)) ⊞ K (val c) ⊠ cut (p .length) (subword (p .length) (bytes (now (block .entry))) i) ⌝ }
+    ensures { λ _. ⌜ bytes (now (word .exit)) ≡
+        bytes (now (word .entry)) ⊞ K (val c) ⊠ cut (p .length) (subword (p .length) (bytes (now (block .entry))) i) ⌝ }
 {
     if c.0 == 1 {
         add_subword(p, block, i, word);

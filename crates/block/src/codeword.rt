@@ -1,4 +1,5 @@
-// The codeword check, and the tables that a block is divided by. What the promises speak of stands in specs/CodewordDefinition.antt.
+// The codeword check, and the tables that a block is divided by. What the promises speak of stands in
+// specs/CodewordDefinition.antt.
 ghost use Prim.Native.Nat.{_*_, _<_};
 ghost use mathlib.Core.Path.{_≡_};
 ghost use lib.ListN.{length};
@@ -27,7 +28,8 @@ pub fn further(p: Profile) -> usize
     p.checks(0) as usize - 2 * p.t0 as usize
 }
 
-// The tables for a profile: for the roots of the subwords, and for the further roots of nested words. They serve any number of blocks.
+// The tables for a profile: for the roots of the subwords, and for the further roots of nested words. They serve any
+// number of blocks.
 pub fn tables(p: Profile, t: &mut [u64], u: &mut [u64])
     requires { ⌜ Valid p × (length (now t) ≡ 1536) × (length (now u) ≡ 1536) ⌝ }
     ensures { λ _. ⌜ Tables p (now (t .exit)) (now (u .exit)) ⌝ }
@@ -57,7 +59,8 @@ fn is_zero(rows: [[Gf; SYNDROMES]; SUBWORDS]) -> bool
 // Nested word l; zeros if there is none.
 fn word(p: Profile, block: &[u8], l: usize) -> [u8; POSITIONS]
     requires { ⌜ Fits p (now block) ⌝ }
-    ensures { λ r. ⌜ (length r ≡ 255) × (l < p .nested → bytes r ≡ cut (p .length) (nested p (bytes (now (block .entry))) l)) ⌝ }
+    ensures { λ r. ⌜ (length r ≡ 255)
+        × (l < p .nested → bytes r ≡ cut (p .length) (nested p (bytes (now (block .entry))) l)) ⌝ }
 {
     if l < p.nested as usize {
         return crate::nested::nested_word(p, block, l);
@@ -65,7 +68,8 @@ fn word(p: Profile, block: &[u8], l: usize) -> [u8; POSITIONS]
     [0u8; POSITIONS]
 }
 
-// The remainders of the nested words by their further roots: all in one pass, which takes little longer than one of them.
+// The remainders of the nested words by their further roots: all in one pass, which takes little longer than one of
+// them.
 fn remainders(p: Profile, u: &[u64], block: &[u8]) -> [[u8; SYNDROMES]; NESTED]
     requires { ⌜ Fits p (now block) × Further p (now u) ⌝ }
     ensures { λ r. ⌜ Remainders p (bytes (now (block .entry))) r ⌝ }
@@ -98,8 +102,9 @@ fn remainders(p: Profile, u: &[u64], block: &[u8]) -> [[u8; SYNDROMES]; NESTED]
     out
 }
 
-// Whether a block whose subwords are in the code of t0 is a codeword: the nested words and their syndromes from number 2 t0 on are walked up to the first
-// that is not zero. Those before are zero. The syndromes are those of a word's remainder, found for all roots at once.
+// Whether a block whose subwords are in the code of t0 is a codeword: the nested words and their syndromes from number
+// 2 t0 on are walked up to the first that is not zero. Those before are zero. The syndromes are those of a word's
+// remainder, found for all roots at once.
 pub fn is_codeword(p: Profile, u: &[u64], block: &[u8]) -> bool
     requires { ⌜ Fits p (now block) × Subwords p (bytes (now block)) × Further p (now u) ⌝ }
     ensures { λ r. ⌜ r ≡ holds (codeword? p (bytes (now (block .entry)))) ⌝ }
@@ -128,7 +133,8 @@ pub fn is_codeword(p: Profile, u: &[u64], block: &[u8]) -> bool
     clean
 }
 
-// Whether a block with these syndromes j < 2 t0 of its subwords is a codeword: if they are all zero, the nested words are looked at.
+// Whether a block with these syndromes j < 2 t0 of its subwords is a codeword: if they are all zero, the nested words
+// are looked at.
 pub fn is_clean(p: Profile, u: &[u64], rows: [[Gf; SYNDROMES]; SUBWORDS], block: &[u8]) -> bool
     requires { ⌜ Fits p (now block) × Further p (now u) × (table rows ≡ received p (bytes (now block)) (2 * p .t0)) ⌝ }
     ensures { λ r. ⌜ r ≡ holds (codeword? p (bytes (now (block .entry)))) ⌝ }

@@ -25,7 +25,8 @@ fn double(word: &mut [u8])
 // One step of Horner's rule: α^l times the word, and a subword.
 fn horner(l: usize, subword: &[u8], word: &mut [u8])
     requires { ⌜ length (now subword) ≡ length (now word) ⌝ }
-    ensures { λ _. ⌜ bytes (now (word .exit)) ≡ K (pow α l) ⊠ bytes (now (word .entry)) ⊞ bytes (now (subword .entry)) ⌝ }
+    ensures { λ _. ⌜ bytes (now (word .exit)) ≡
+        K (pow α l) ⊠ bytes (now (word .entry)) ⊞ bytes (now (subword .entry)) ⌝ }
 {
     let mut d: usize = 0;
     while d < l {

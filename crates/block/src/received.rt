@@ -34,7 +34,8 @@ fn four(
     rows: [[Gf; SYNDROMES]; SUBWORDS],
 ) -> [[Gf; SYNDROMES]; SUBWORDS]
     requires { ⌜ Fits p (now block) × Table 0 (2 * p .t0) (now t) × (i + 4 ≤ p .subwords) ⌝ }
-    ensures { λ r. ⌜ (FirstRows p (bytes (now (block .entry))) i rows → FirstRows p (bytes (now (block .entry))) (i + 4) r) ⌝ }
+    ensures { λ r. ⌜ (FirstRows p (bytes (now (block .entry))) i rows
+        → FirstRows p (bytes (now (block .entry))) (i + 4) r) ⌝ }
 {
     let n = p.length as usize;
     let k = 2 * p.t0 as usize;
@@ -73,7 +74,8 @@ fn one(
     rows: [[Gf; SYNDROMES]; SUBWORDS],
 ) -> [[Gf; SYNDROMES]; SUBWORDS]
     requires { ⌜ Fits p (now block) × Table 0 (2 * p .t0) (now t) × (i < p .subwords) ⌝ }
-    ensures { λ r. ⌜ (FirstRows p (bytes (now (block .entry))) i rows → FirstRows p (bytes (now (block .entry))) (i + 1) r) ⌝ }
+    ensures { λ r. ⌜ (FirstRows p (bytes (now (block .entry))) i rows
+        → FirstRows p (bytes (now (block .entry))) (i + 1) r) ⌝ }
 {
     let n = p.length as usize;
     let a = i * n;

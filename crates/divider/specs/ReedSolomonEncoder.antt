@@ -1,41 +1,37 @@
 -- The encoder of one word: what the remainder by the generator holds at the top is the check symbols.
 --
--- Proved: a loop that writes r from the first position on goes on by front-more, and with these symbols ends at the systematic word (front-all).
-use Prim.Native.Nat.{ℕ, _+_, _-_, _≤_, _<_}
+-- Proved: the last k of 48 symbols have room in the first k of a word (room); copied there from the remainder, they make
+-- the systematic word (encoded).
+use Prim.Native.Nat.{ℕ, _-_, _≤_}
 use mathlib.Core.Path.{_≡_, refl, sym, _∙_, ap, ap₂}
-use mathlib.Core.List.{List}
-use native.Mathlib.Numerals.{add-one}
+use mathlib.Core.List.{List, _++_}
 use native.Mathlib.Omega.{arith}
-use lib.ListN.{length, set}
-use Rattle.field.specs.Field.{F, _⊕_, of, zero-⊕}
-use Rattle.series.specs.Series.{Series, K, Z, _⊞_, _⊠_, tail, ⊞-group, ⊠-ring, ⊞-at, head-tail}
-use Rattle.series.specs.Shift.{zpow, drop, cut, zpow-zero, zpow-suc, zpow-at0, drop-at0, drop-none, drop-suc}
-use Rattle.series.specs.Shift.{cut-none, cut-high, cut-suc, cut-⊞, cut-drop}
+use lib.ListN.{length, take, drop as drop-list, length-drop}
+use lib.Seq.{length-take-le}
+use Rattle.field.specs.Field.{of, of-zero}
+use Rattle.series.specs.Series.{Series, _⊞_, _⊠_, ⊞-group}
+use Rattle.series.specs.Shift.{zpow, drop, cut, cut-⊞, cut-drop}
 use Rattle.series.specs.Array.{bytes}
-use Rattle.kernel.specs.Store.{bytes-set}
+use Rattle.series.specs.Part.{read-part}
+use Rattle.kernel.specs.Copy.{front}
 use Rattle.divider.specs.DivisionRemainder.{remainder}
 use Rattle.divider.specs.Multiples.{rows, lower}
 use Rattle.divider.specs.GeneratorTable.{Table}
 use Rattle.code.specs.Word.{systematic}
 use Rattle.divider.specs.ReedSolomonResidue.{residue-table, residue-systematic}
 
-pub front-none : (r w : Series) → w ≡ cut 0 r ⊞ zpow 0 ⊠ drop 0 w
-front-none r w = rw (cut-none, zpow-zero, drop-none) (simp ⊠-ring)
+-- the last k of the 48 symbols of a remainder
+top-length : (k : ℕ) (checks : List ℕ) → k ≤ 48 → length checks ≡ 48
+    → length (take (48 - (48 - k)) (drop-list (48 - k) checks)) ≡ k
+top-length k checks h long =
+    length-take-le (48 - (48 - k)) (drop-list (48 - k) checks) (omega (arith, length-drop (48 - k) checks))
+    ∙ omega arith
 
-pub front-more : (l : List ℕ) (i v : ℕ) (r w : Series) → i < length l → bytes l ≡ cut i r ⊞ zpow i ⊠ drop i w → of v ≡ r i
-    → bytes (set l i v) ≡ cut (i + 1) r ⊞ zpow (i + 1) ⊠ drop (i + 1) w
-front-more l i v r w h e q =
-    bytes-set l i v h
-    ∙ ap (λ (s : F). bytes l ⊞ K s ⊠ zpow i) (ap₂ _⊕_ old q)
-    ∙ rw (e, add-one, cut-suc, zpow-suc, drop-suc) (ap (λ (f : Series). cut i r ⊞ zpow i ⊠ f ⊞ K (w i ⊕ r i) ⊠ zpow i) split ∙ simp ⊠-ring)
-  where
-    old : bytes l i ≡ w i
-    old = ap (λ (f : Series). f i) e ∙ ⊞-at _ _ i ∙ ap₂ _⊕_ (cut-high i r i (omega arith)) (zpow-at0 i (drop i w) ∙ drop-at0 i w) ∙ zero-⊕ (w i)
+pub room : (k : ℕ) (checks word : List ℕ) → k ≤ 48 → k ≤ length word → length checks ≡ 48
+    → length (take k word) ≡ length (take (48 - (48 - k)) (drop-list (48 - k) checks))
+room k checks word h l long = length-take-le k word l ∙ sym (top-length k checks h long)
 
-    split : drop i w ≡ K (w i) ⊞ Z ⊠ tail (drop i w)
-    split = head-tail (drop i w) ∙ ap (λ (a : F). K a ⊞ Z ⊠ tail (drop i w)) (drop-at0 i w)
-
-pub front-all : (n k : ℕ) (t : List ℕ) (w r : Series) → k ≤ 48 → k ≤ n → Table 0 k t → r ≡ remainder (lower (rows k) t) (n - k) (drop k w)
+front-all : (n k : ℕ) (t : List ℕ) (w r : Series) → k ≤ 48 → k ≤ n → Table 0 k t → r ≡ remainder (lower (rows k) t) (n - k) (drop k w)
     → cut k (drop (48 - k) r) ⊞ zpow k ⊠ drop k w ≡ systematic n k w
 front-all n k t w r h l p e =
     shape (cut k w) _ _
@@ -44,3 +40,18 @@ front-all n k t w r h l p e =
   where
     shape : (a b c : Series) → b ⊞ c ≡ a ⊞ c ⊞ (a ⊞ b)
     shape a b c = simp ⊞-group
+
+pub encoded : (k : ℕ) (t checks y word : List ℕ) → k ≤ 48 → k ≤ length word → Table 0 k t → length checks ≡ 48
+    → bytes checks ≡ remainder (lower (rows k) t) (length word - k) (drop k (bytes word))
+    → y ≡ take (48 - (48 - k)) (drop-list (48 - k) checks)
+    → bytes (y ++ drop-list k word) ≡ systematic (length word) k (bytes word)
+encoded k t checks y word h l p long e copied =
+    front k y word (drop (48 - k) (bytes checks)) (ap length copied ∙ top-length k checks h long)
+    (ap bytes copied ∙ top)
+    ∙ front-all (length word) k t (bytes word) (bytes checks) h l p e
+  where
+    top : bytes (take (48 - (48 - k)) (drop-list (48 - k) checks)) ≡ cut k (drop (48 - k) (bytes checks))
+    top =
+        let all : 48 - (48 - k) ≡ k = omega arith in
+        read-part of 0 of-zero (48 - k) (48 - (48 - k)) checks (omega (arith, long))
+        ∙ ap (λ (n : ℕ). cut n (drop (48 - k) (bytes checks))) all

@@ -11,7 +11,7 @@ mod wide;
 
 use crate::packed::Packed;
 
-// Four of them.
+// The remainders of four words.
 pub struct Four(pub Packed, pub Packed, pub Packed, pub Packed);
 
 // What z^48 times the symbols from k on leaves by the polynomial of a table for degree k.
@@ -25,12 +25,15 @@ pub fn remainder(t: &[u64], word: &[u8], k: usize) -> Packed
     wide::remainder(t, word, k)
 }
 
-// The same of four words of one length.
+// What the same leaves of each of four words of one length.
 pub fn remainders(t: &[u64], a: &[u8], b: &[u8], c: &[u8], d: &[u8], k: usize) -> Four
-    requires { ⌜ Multiples (rows k) (now t) × (k ≤ length (now a)) × (length (now b) ≡ length (now a)) × (length (now c) ≡ length (now a))
+    requires { ⌜ Multiples (rows k) (now t) × (k ≤ length (now a)) × (length (now b) ≡ length (now a))
+        × (length (now c) ≡ length (now a))
         × (length (now d) ≡ length (now a)) ⌝ }
-    ensures { λ r. ⌜ Leaves (rows k) (now (t .entry)) k (now (a .entry)) (r .0) × Leaves (rows k) (now (t .entry)) k (now (b .entry)) (r .1)
-        × Leaves (rows k) (now (t .entry)) k (now (c .entry)) (r .2) × Leaves (rows k) (now (t .entry)) k (now (d .entry)) (r .3) ⌝ }
+    ensures { λ r. ⌜ Leaves (rows k) (now (t .entry)) k (now (a .entry)) (r .0)
+        × Leaves (rows k) (now (t .entry)) k (now (b .entry)) (r .1)
+        × Leaves (rows k) (now (t .entry)) k (now (c .entry)) (r .2)
+        × Leaves (rows k) (now (t .entry)) k (now (d .entry)) (r .3) ⌝ }
 {
     if k <= 32 {
         return narrow::remainders(t, a, b, c, d, k);

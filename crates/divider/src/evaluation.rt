@@ -15,7 +15,7 @@ ghost use Rattle.divider.specs.EvaluationLanes.{Lanes};
 use field::Gf;
 use polynomial::SYNDROMES;
 
-// At j: α^(j+1).
+// The roots: entry j is α^(j+1).
 const ROOTS: [u8; 64] = *b"\x02\x04\x08\x10\x20\x40\x80\x1d\x3a\x74\xe8\xcd\x87\x13\x26\x4c\
     \x98\x2d\x5a\xb4\x75\xea\xc9\x8f\x03\x06\x0c\x18\x30\x60\xc0\x9d\
     \x27\x4e\x9c\x25\x4a\x94\x35\x6a\xd4\xb5\x77\xee\xc1\x9f\x23\x46\
@@ -34,15 +34,16 @@ fn is_zero(word: &[u8]) -> bool
     bits == 0
 }
 
-// The 64 roots from root 0 on. The table by what it means: no caller sees its entries.
+// The 64 roots from root 0 on: the table by what it means, so that no caller sees its entries.
 fn roots() -> [u8; 64]
     ensures { λ r. ⌜ bytes r ≡ cut 64 Root ⌝ }
 {
     ROOTS
 }
 
-// A step of Horner's rule at the 32 points from point i on: no table and no branch, so the compiler takes sixteen products at a time. A product is a
-// chain of eight steps that wait for one another, so two of them side by side take hardly longer than one.
+// A step of Horner's rule at the 32 points from point i on: no table and no branch, so the compiler takes sixteen
+// products at a time. A product is a chain of eight steps that wait for one another, so two of them side by side take
+// hardly longer than one.
 fn horner(x: &[u8], i: usize, v: [u8; 32], s: u8) -> [u8; 32]
     requires { ⌜ i + 32 ≤ length (now x) ⌝ }
     ensures { λ r. ⌜ bytes r ≡ cut 32 (λ j. bytes v j ⊙ bytes (now (x .entry)) (i + j) ⊕ of s) ⌝ }
@@ -83,7 +84,8 @@ fn lanes(r: &[u8], i: usize, v: [u8; 32]) -> [u8; 32]
     v
 }
 
-// S_0 to S_(k-1) of a short word, as a remainder is, then zeros. No lanes are run for a word of zeros, as the remainder of a clean word is.
+// S_0 to S_(k-1) of a short word, as a remainder is, then zeros. No lanes are run for a word of zeros, as the remainder
+// of a clean word is.
 pub fn at_roots(r: &[u8], k: usize) -> [Gf; SYNDROMES]
     requires { ⌜ k ≤ 48 ⌝ }
     ensures { λ s. ⌜ row s ≡ cut k (Syndrome (length (now (r .entry))) (bytes (now (r .entry)))) ⌝ }

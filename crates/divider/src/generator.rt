@@ -8,30 +8,33 @@ ghost use Rattle.divider.specs.Generator.{aligned};
 ghost use Rattle.divider.specs.GeneratorCoefficients.{Zech};
 ghost use Rattle.divider.specs.GeneratorTable.{Table, Made};
 use field::Exponent;
+use polynomial::SYNDROMES;
 
-// The words of a table.
+// How many words a table has.
 pub const TABLE: usize = 1536;
 
-// Zech's logarithms. At i: the exponent of α^(i+1) + 1.
-const LOGARITHMS: [u8; 48] = *b"\x19\x32\xdf\x64\x8a\xbf\x70\xc8\x78\x15\xf5\x7f\x63\xe0\x21\x91\
+// Zech's logarithms: entry i is the exponent of α^(i+1) + 1.
+const LOGARITHMS: [u8; SYNDROMES] =
+    *b"\x19\x32\xdf\x64\x8a\xbf\x70\xc8\x78\x15\xf5\x7f\x63\xe0\x21\x91\
     \x44\xf0\x5c\x2a\x0a\xeb\xc4\xfe\x01\xc6\x68\xc1\xb5\x42\x2d\x23\
     \x0f\x88\x20\xe1\xb3\xb8\x6a\x54\x9d\x14\x79\xd7\x1f\x89\x65\xfd";
 
-// The table by what it means: no caller sees its entries.
-fn zech() -> [u8; 48]
+// Zech's logarithms by what they mean, so that no caller sees the table's entries.
+fn zech() -> [u8; SYNDROMES]
     ensures { λ r. ⌜ Zech r ⌝ }
 {
     LOGARITHMS
 }
 
-// The generator of the k roots from `first` on, without its top term, which stands where entry 48 would be. From the top down: a coefficient is the
-// one above it, times α^first α^(j+1) (α^(k-j) + 1) / (α^(j+1) + 1), with j coefficients above that one. All are powers of α, and α^255 is 1.
-fn generator(first: usize, k: usize) -> [u8; 48]
+// The generator of the k roots from `first` on, without its top term, which stands where entry 48 would be. From the
+// top down: a coefficient is the one above it, times α^first α^(j+1) (α^(k-j) + 1) / (α^(j+1) + 1), with j coefficients
+// above that one. All are powers of α, and α^255 is 1.
+fn generator(first: usize, k: usize) -> [u8; SYNDROMES]
     requires { ⌜ first + k ≤ 48 ⌝ }
     ensures { λ r. ⌜ bytes r ≡ aligned first k ⌝ }
 {
     let z = zech();
-    let mut g = [0u8; 48];
+    let mut g = [0u8; SYNDROMES];
     let mut e: usize = 0;
     let mut j: usize = 0;
     while j < k {
@@ -40,7 +43,7 @@ fn generator(first: usize, k: usize) -> [u8; 48]
         e = e + (first + j + 256 + up) - down;
         j += 1;
         let c = Exponent(e).power();
-        g[48 - j] = c.0;
+        g[SYNDROMES - j] = c.0;
     }
     g
 }

@@ -1,5 +1,5 @@
-// Tables of multiples: 256 rows of 48 symbols, row f holding f times row 1. Up to degree 32 the two lowest words of every row are zero and are not
-// stored, so a row has four words; above it has six.
+// Tables of multiples: 256 rows of 48 symbols, row f holding f times row 1. Up to degree 32 the two lowest words of
+// every row are zero and are not stored, so a row has four words; above it has six.
 // What the promises speak of stands in specs/Multiples.antt.
 ghost use Prim.Native.Nat.{_+_, _-_, _≤_, _<_};
 ghost use mathlib.Core.Path.{_≡_};
@@ -11,8 +11,9 @@ ghost use Rattle.divider.specs.Packed.{packed, tops};
 ghost use Rattle.divider.specs.Multiples.{wide as Wide, narrow as Narrow, rows, Slim, lower, Multiples};
 ghost use Rattle.divider.specs.MultiplesBuilding.{Two, Written, Added};
 use crate::packed::Packed;
+use polynomial::SYNDROMES;
 
-// Six words from 6f on.
+// Row f of a table of wide rows: six words from 6f on.
 pub fn wide(t: &[u64], f: usize) -> Packed
     requires { ⌜ (f < 256) × (1536 ≤ length (now t)) ⌝ }
     ensures { λ r. ⌜ packed r ≡ Wide (now (t .entry)) f ⌝ }
@@ -21,7 +22,7 @@ pub fn wide(t: &[u64], f: usize) -> Packed
     Packed(t[i], t[i + 1], t[i + 2], t[i + 3], t[i + 4], t[i + 5])
 }
 
-// Four words from 4f on, above zeros.
+// Row f of a table of narrow rows: four words from 4f on, above zeros.
 pub fn narrow(t: &[u64], f: usize) -> Packed
     requires { ⌜ (f < 256) × (1536 ≤ length (now t)) ⌝ }
     ensures { λ r. ⌜ (packed r ≡ Narrow (now (t .entry)) f) × (tops r ≡ Narrow (now (t .entry)) f) ⌝ }
@@ -41,7 +42,7 @@ fn row(k: usize, t: &[u64], f: usize) -> Packed
     wide(t, f)
 }
 
-// Two stores.
+// Stores two words, one after the other.
 fn two(t: &mut [u64], i: usize, a: u64, b: u64)
     requires { ⌜ i + 2 ≤ length (now t) ⌝ }
     ensures { λ _. ⌜ Two i a b (now (t .entry)) (now (t .exit)) ⌝ }
@@ -50,7 +51,7 @@ fn two(t: &mut [u64], i: usize, a: u64, b: u64)
     t[i + 1] = b;
 }
 
-// The words that row f of a table for degree k holds.
+// Stores the words that row f of a table for degree k holds.
 fn write(k: usize, t: &mut [u64], f: usize, r: Packed)
     requires { ⌜ (f < 256) × (1536 ≤ length (now t)) × Slim k r ⌝ }
     ensures { λ _. ⌜ Written (rows k) f (packed r) (now (t .entry)) (now (t .exit)) ⌝ }
@@ -67,7 +68,7 @@ fn write(k: usize, t: &mut [u64], f: usize, r: Packed)
     two(t, i + 4, r.4, r.5);
 }
 
-// Rows w to 2w - 1: those below w, each with r added.
+// Writes rows w to 2w - 1: those below w, each with r added.
 fn level(k: usize, t: &mut [u64], w: usize, r: Packed)
     requires { ⌜ (w + w ≤ 256) × (1536 ≤ length (now t)) × Slim k r ⌝ }
     ensures { λ _. ⌜ Added (rows k) w w (packed r) (now (t .entry)) (now (t .exit)) ⌝ }
@@ -80,21 +81,22 @@ fn level(k: usize, t: &mut [u64], w: usize, r: Packed)
     }
 }
 
-// Symbol by symbol.
-fn doubled(list: [u8; 48]) -> [u8; 48]
+// The list with each symbol doubled.
+fn doubled(list: [u8; SYNDROMES]) -> [u8; SYNDROMES]
     ensures { λ r. ⌜ bytes r ≡ K α ⊠ bytes list ⌝ }
 {
-    let mut out = [0u8; 48];
+    let mut out = [0u8; SYNDROMES];
     let mut i: usize = 0;
-    while i < 48 {
+    while i < SYNDROMES {
         out[i] = kernel::twice(list[i]);
         i += 1;
     }
     out
 }
 
-// The table of the list's 48 symbols, the last k of them not zero. The product is linear, so eight levels make it with no product.
-pub fn multiples(list: [u8; 48], k: usize, t: &mut [u64])
+// The table of the list's 48 symbols, the last k of them not zero. The product is linear, so eight levels make it with
+// no product.
+pub fn multiples(list: [u8; SYNDROMES], k: usize, t: &mut [u64])
     requires { ⌜ (1536 ≤ length (now t)) × ((i : _) → i < 48 - k → bytes list i ≡ 𝟎) ⌝ }
     ensures { λ _. ⌜ Multiples (rows k) (now (t .exit)) × (lower (rows k) (now (t .exit)) ≡ bytes list) ⌝ }
 {

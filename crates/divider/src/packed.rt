@@ -8,10 +8,12 @@ ghost use Rattle.series.specs.Series.{K, Z, _⊞_, _⊠_};
 ghost use Rattle.series.specs.Shift.{zpow, drop, cut};
 ghost use Rattle.series.specs.Array.{bytes};
 ghost use Rattle.divider.specs.Packed.{digits, packed, tops};
+use polynomial::SYNDROMES;
 
+// Six words of eight symbols each.
 pub struct Packed(pub u64, pub u64, pub u64, pub u64, pub u64, pub u64);
 
-// The eight bytes from `at` on, the last one first.
+// The word of the eight bytes from `at` on, taken from the last one down.
 fn word(list: &[u8], at: usize) -> u64
     requires { ⌜ at + 8 ≤ length (now list) ⌝ }
     ensures { λ r. ⌜ digits r ≡ cut 8 (drop at (bytes (now (list .entry)))) ⌝ }
@@ -25,8 +27,8 @@ fn word(list: &[u8], at: usize) -> u64
     w
 }
 
-// Each word by itself.
-pub fn pack(list: [u8; 48]) -> Packed
+// Packs 48 symbols, each word by itself.
+pub fn pack(list: [u8; SYNDROMES]) -> Packed
     ensures { λ r. ⌜ packed r ≡ bytes list ⌝ }
 {
     Packed(
@@ -53,11 +55,11 @@ fn add_word(w: u64, at: usize, out: &mut [u8])
     }
 }
 
-// Each word is added to zeros.
-pub fn unpack(r: Packed) -> [u8; 48]
+// The 48 symbols of six words, each word added to zeros.
+pub fn unpack(r: Packed) -> [u8; SYNDROMES]
     ensures { λ out. ⌜ bytes out ≡ packed r ⌝ }
 {
-    let mut out = [0u8; 48];
+    let mut out = [0u8; SYNDROMES];
     add_word(r.0, 0, &mut out);
     add_word(r.1, 8, &mut out);
     add_word(r.2, 16, &mut out);
@@ -67,7 +69,7 @@ pub fn unpack(r: Packed) -> [u8; 48]
     out
 }
 
-// Word by word.
+// The sum, word by word.
 pub fn sum(a: Packed, b: Packed) -> Packed
     ensures { λ r. ⌜ (packed r ≡ packed a ⊞ packed b) × (tops r ≡ tops a ⊞ tops b) ⌝ }
 {
@@ -81,14 +83,15 @@ pub fn sum(a: Packed, b: Packed) -> Packed
     )
 }
 
-// The last symbol and another, their sum as a number.
+// The sum of the last symbol and another, as an index.
 pub fn index(r: Packed, x: u8) -> usize
     ensures { λ i. ⌜ (of i ≡ packed r 47 ⊕ of x) × (i < 256) ⌝ }
 {
     kernel::wide(((r.5 >> 56) as u8) ^ x)
 }
 
-// One symbol up, with what falls out of each word carried into the next and the last symbol dropped; then m is added.
+// Moves the symbols one place up, with what falls out of each word carried into the next and the last symbol dropped;
+// then adds m.
 pub fn shifted(r: Packed, m: Packed) -> Packed
     ensures { λ q. ⌜ packed q ≡ Z ⊠ packed r ⊞ K (packed r 47) ⊠ zpow 48 ⊞ packed m ⌝ }
 {

@@ -1,5 +1,6 @@
 // One Reed-Solomon word: syndromes, check symbols, the remainder by the generator.
-// What the promises speak of stands in code's specs/Word.antt: `systematic n k w` is the word w with its k check symbols in place.
+// What the promises speak of stands in code's specs/Word.antt: `systematic n k w` is the word w with its k check
+// symbols in place.
 ghost use Prim.Native.Nat.{_+_, _-_, _≤_};
 ghost use mathlib.Core.Path.{_≡_};
 ghost use lib.ListN.{length};
@@ -13,19 +14,16 @@ ghost use Rattle.divider.specs.ReedSolomonResidue.{residue as Residue, R
 use crate::packed::Packed;
 use polynomial::SYNDROMES;
 
-// The first k symbols become the check symbols of the others.
+// Makes the first k symbols of a word the check symbols of the others.
 pub fn encode(t: &[u64], k: usize, word: &mut [u8])
     requires { ⌜ Table 0 k (now t) × (k ≤ 48) × (k ≤ length (now word)) ⌝ }
-    ensures { λ _. ⌜ bytes (now (word .exit)) ≡ systematic (length (now (word .entry))) k (bytes (now (word .entry))) ⌝ }
+    ensures { λ _. ⌜ bytes (now (word .exit)) ≡
+        systematic (length (now (word .entry))) k (bytes (now (word .entry))) ⌝ }
 {
     let r = crate::division::remainder(t, word, k);
     let checks = crate::packed::unpack(r);
-    let s = 48 - k;
-    let mut p: usize = 0;
-    while p < k {
-        word[p] = checks[s + p];
-        p += 1;
-    }
+    let s = SYNDROMES - k;
+    kernel::copy(&checks[s..], &mut word[..k]);
 }
 
 // The first k symbols of a word, the symbols at the top of a remainder added, then zeros.
@@ -34,7 +32,7 @@ fn difference(word: &[u8], k: usize, r: Packed) -> [u8; SYNDROMES]
     ensures { λ out. ⌜ bytes out ≡ cut k (bytes (now (word .entry)) ⊞ drop (48 - k) (packed r)) ⌝ }
 {
     let checks = crate::packed::unpack(r);
-    let above = 48 - k;
+    let above = SYNDROMES - k;
     let mut out = [0u8; SYNDROMES];
     let mut q: usize = 0;
     while q < k {
@@ -44,7 +42,8 @@ fn difference(word: &[u8], k: usize, r: Packed) -> [u8; SYNDROMES]
     out
 }
 
-// The remainder of a word by the generator of the k roots from `first` on, zeros from k on. It is zero exactly if these syndromes are.
+// The remainder of a word by the generator of the k roots from `first` on, zeros from k on. It is zero exactly if these
+// syndromes are.
 pub fn residue(t: &[u64], first: usize, k: usize, word: &[u8]) -> [u8; SYNDROMES]
     requires { ⌜ Table first k (now t) × (first + k ≤ 48) × (k ≤ length (now word)) ⌝ }
     ensures { λ r. ⌜ bytes r ≡ Residue first (length (now (word .entry))) k (bytes (now (word .entry))) ⌝ }
@@ -60,7 +59,7 @@ pub struct FourResidues {
     pub fourth: [u8; SYNDROMES],
 }
 
-// The same of four words of one length: up to 32 roots it takes little longer than one.
+// The remainders of four words of one length: up to 32 roots they take little longer than one.
 pub fn residues(
     t: &[u64],
     first: usize,

@@ -1,4 +1,5 @@
-// The unsettled subwords of a block: how many they are, and Lagrange's polynomials of them. What the promises speak of stands in specs/LagrangeDefinition.antt.
+// The unsettled subwords of a block: how many they are, and Lagrange's polynomials of them. What the promises speak of
+// stands in specs/LagrangeDefinition.antt.
 ghost use Prim.Native.Nat.{suc, _≤_, _<_};
 ghost use mathlib.Core.Path.{_≡_};
 ghost use mathlib.Core.Bool.{cond};

@@ -1,5 +1,6 @@
-// The syndromes that a round of staged decoding brings: those of an unsettled subword are the syndromes of one word, a sum of multiples of all
-// subwords, and come from its remainder. What the promises speak of stands in specs/Definition.antt, and for the round in staged_decoding's.
+// The syndromes that a round of staged decoding brings: those of an unsettled subword are the syndromes of one word, a
+// sum of multiples of all subwords, and come from its remainder. What the promises speak of stands in
+// specs/Definition.antt, and for the round in staged_decoding's.
 pub mod lagrange;
 
 ghost use Prim.Native.Nat.{_*_, _≤_, _<_};
@@ -62,7 +63,8 @@ fn extend_row(
     to: usize,
     row: [Gf; SYNDROMES],
 ) -> [Gf; SYNDROMES]
-    requires { ⌜ Fits p (now block) × Further p (now u) × (0 < p .nested) × (2 * p .t0 ≤ from) × (to ≤ checks p 0) × (i < p .subwords) ⌝ }
+    requires { ⌜ Fits p (now block) × Further p (now u) × (0 < p .nested) × (2 * p .t0 ≤ from) × (to ≤ checks p 0)
+        × (i < p .subwords) ⌝ }
     ensures { λ r. ⌜ Row r ≡ extended p from to pending (bytes (now (block .entry))) i (Row row) ⌝ }
 {
     if !pending[i] {
@@ -76,8 +78,8 @@ fn extend_row(
     splice(divider::evaluation::at_roots(&left[..k], to), from, to, row)
 }
 
-// The rows of the unsettled subwords go on with syndromes `from` to `to` - 1, in the block as corrected so far, by the table for the further roots of nested
-// words.
+// The rows of the unsettled subwords go on with syndromes `from` to `to` - 1, in the block as corrected so far, by the
+// table for the further roots of nested words.
 pub fn extend(
     p: Profile,
     u: &[u64],
@@ -88,7 +90,8 @@ pub fn extend(
     table: [[Gf; SYNDROMES]; SUBWORDS],
 ) -> [[Gf; SYNDROMES]; SUBWORDS]
     requires { ⌜ Fits p (now block) × Further p (now u) × (0 < p .nested) × (2 * p .t0 ≤ from) × (to ≤ checks p 0) ⌝ }
-    ensures { λ r. ⌜ ((g : Progress) → Seen p pending (now (block .entry)) table g → Table r ≡ Extend p from to g .row) ⌝ }
+    ensures { λ r. ⌜ ((g : Progress) → Seen p pending (now (block .entry)) table g
+        → Table r ≡ Extend p from to g .row) ⌝ }
 {
     let m = p.subwords as usize;
     let mut out = table;

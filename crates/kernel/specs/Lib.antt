@@ -1,4 +1,5 @@
 pub mod Store
+pub mod Copy
 pub mod Power
 pub mod ProductRow
 pub mod ByteMultiply

@@ -11,7 +11,7 @@ pub fn wide(x: u8) -> usize
     x as usize
 }
 
-// The bit that falls out comes back as z^8 modulo 285, which is 29.
+// Twice a byte: the bit that falls out comes back as z^8 modulo 285, which is 29.
 pub fn twice(x: u8) -> u8
     ensures { λ r. ⌜ of r ≡ α ⊙ of x ⌝ }
 {
@@ -39,6 +39,7 @@ pub fn multiply(a: u8, b: u8) -> u8
     step(p1, a, b << 7)
 }
 
+// The product of two symbols, with no table.
 pub fn product(x: Gf, y: Gf) -> Gf
     ensures { λ r. ⌜ val r ≡ val x ⊙ val y ⌝ }
 {

@@ -2,12 +2,14 @@
 // The promises are equations of series: `bytes l` is the list l as the series of its entries, then zeros.
 mod byte;
 mod row;
+mod word;
 
 pub use crate::byte::multiply;
 pub use crate::byte::product;
 pub use crate::byte::twice;
 pub use crate::byte::wide;
-pub use row::add;
 pub use row::add_multiple;
 pub use row::product_row;
 pub use row::value;
+pub use word::add;
+pub use word::copy;

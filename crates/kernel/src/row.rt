@@ -11,10 +11,11 @@ ghost use Rattle.series.specs.Array.{bytes};
 ghost use Rattle.kernel.specs.ProductRow.{products, factor, ProductRow};
 use field::Gf;
 
-// The entries from w to 2w - 1: those below w, each with top added.
+// Writes the entries from w to 2w - 1: those below w, each with `top` added.
 fn level(top: u8, w: usize, row: &mut [u8])
     requires { ⌜ (w + w ≤ length (now row)) × below w (bytes (now row)) ⌝ }
-    ensures { λ _. ⌜ bytes (now (row .exit)) ≡ bytes (now (row .entry)) ⊞ zpow w ⊠ cut w (λ i. bytes (now (row .entry)) i ⊕ of top) ⌝ }
+    ensures { λ _. ⌜ bytes (now (row .exit)) ≡
+        bytes (now (row .entry)) ⊞ zpow w ⊠ cut w (λ i. bytes (now (row .entry)) i ⊕ of top) ⌝ }
 {
     let mut x: usize = 0;
     while x < w {
@@ -23,7 +24,8 @@ fn level(top: u8, w: usize, row: &mut [u8])
     }
 }
 
-// Entry x is x times c: the product is linear, so eight levels make the row with no product.
+// The row of products of c, whose entry x is x times c: the product is linear, so eight levels make the row with no
+// product.
 pub fn product_row(c: Gf) -> [u8; 256]
     ensures { λ r. ⌜ bytes r ≡ cut 256 (products (val c)) ⌝ }
 {
@@ -41,7 +43,8 @@ pub fn product_row(c: Gf) -> [u8; 256]
 // The value of a word at the row's factor, by Horner's rule from the last symbol: one lookup a symbol.
 pub fn value(row: &[u8], word: &[u8]) -> Gf
     requires { ⌜ ProductRow (now row) ⌝ }
-    ensures { λ r. ⌜ val r ≡ value (length (now (word .entry))) (bytes (now (word .entry))) (factor (now (row .entry))) ⌝ }
+    ensures { λ r. ⌜ val r ≡
+        value (length (now (word .entry))) (bytes (now (word .entry))) (factor (now (row .entry))) ⌝ }
 {
     let mut v: u8 = 0;
     let mut i: usize = word.len();
@@ -52,26 +55,15 @@ pub fn value(row: &[u8], word: &[u8]) -> Gf
     Gf(v)
 }
 
-// The row's factor times one word is added to another: one lookup a symbol.
+// Adds the row's factor times one word to another: one lookup a symbol.
 pub fn add_multiple(row: &[u8], from: &[u8], to: &mut [u8])
     requires { ⌜ ProductRow (now row) × (length (now from) ≡ length (now to)) ⌝ }
-    ensures { λ _. ⌜ bytes (now (to .exit)) ≡ bytes (now (to .entry)) ⊞ K (factor (now (row .entry))) ⊠ bytes (now (from .entry)) ⌝ }
+    ensures { λ _. ⌜ bytes (now (to .exit)) ≡
+        bytes (now (to .entry)) ⊞ K (factor (now (row .entry))) ⊠ bytes (now (from .entry)) ⌝ }
 {
     let mut i: usize = 0;
     while i < to.len() {
         to[i] = to[i] ^ row[crate::byte::wide(from[i])];
         i += 1;
-    }
-}
-
-// Sums, symbol by symbol.
-pub fn add(from: &[u8], to: &mut [u8])
-    requires { ⌜ length (now from) ≡ length (now to) ⌝ }
-    ensures { λ _. ⌜ bytes (now (to .exit)) ≡ bytes (now (to .entry)) ⊞ bytes (now (from .entry)) ⌝ }
-{
-    let mut q: usize = 0;
-    while q < to.len() {
-        to[q] = to[q] ^ from[q];
-        q += 1;
     }
 }

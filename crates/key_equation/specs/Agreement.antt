@@ -3,9 +3,9 @@
 --   PlainBelow, LookaheadBelow, ScaledBelow   the polynomials of a state have coefficients below n alone
 --   Bounded n rounds k                        so it is in each form, after the first k events of these rounds
 --
--- Proved: each form's whole state, as one equation (plain-run, lookahead-run, scaled-run); from these the claim (agreement); the degrees (bounded),
--- so that 49 coefficients hold every polynomial of a run of at most 48 syndromes (fits).
-use Prim.Native.Nat.{ℕ, suc, _+_, _≤_, _<_}
+-- Proved: each form's whole state, as one equation (plain-run, lookahead-run, scaled-run); from these the claim (agreement);
+-- 49 coefficients hold every polynomial of a run of at most 48 syndromes (fits).
+use Prim.Native.Nat.{ℕ, _+_, _≤_, _<_}
 use mathlib.Core.Path.{_≡_, refl, sym, ap, _∙_, subst}
 use mathlib.Core.Bool.{Bool, cond}
 use mathlib.Core.List.{List}
@@ -204,10 +204,6 @@ bounded-by n rounds k h = record {
 
     B-below : below n (m rounds k .B)
     B-below = below-weaken _ n _ (measure-below (entry (joined rounds)) (iterations rounds k) .1) h
-
--- after r iterations every polynomial of every form has coefficients 0 to r alone
-pub bounded : (rounds : List (List F)) (k : ℕ) → Bounded (suc (iterations rounds k)) rounds k
-bounded rounds k = bounded-by _ rounds k (omega arith)
 
 -- FORMAT 8.3: no run needs more than 49 coefficients; the one place where the number counts
 pub fits : (rounds : List (List F)) → length (joined rounds) ≤ 48 → (k : ℕ) → Bounded 49 rounds k

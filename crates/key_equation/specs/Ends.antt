@@ -2,22 +2,22 @@
 --
 --   finish f rounds   the run after all of its events
 --
--- Proved: one round more is its entry and its iterations (finish-snoc, iterate-more); where a round has ended S_r is 0 and S'_r is 1 (round-end); the
--- whole run's end in each form (finish-is, and for the states plain-end, lookahead-end, scaled-end). How the syndromes are cut into rounds does not
--- count in it (finish-joined), so an empty round changes nothing (empty-round).
-use Prim.Native.Nat.{ℕ, zero, suc}
+-- Proved: events happen one list after the other (after-append); the whole run's end in each form (finish-is, and for the states plain-end,
+-- lookahead-end, scaled-end). How the syndromes are cut into rounds does not count in it (finish-joined), so an empty round changes nothing
+-- (empty-round).
+use Prim.Native.Nat.{ℕ}
 use mathlib.Core.Path.{_≡_, refl, sym, ap, ap₂, _∙_}
-use mathlib.Core.List.{List, [], _∷_, _++_, append-assoc, append-nil}
+use mathlib.Core.List.{List, [], _∷_, _++_, append-assoc}
 use native.Mathlib.Omega.{arith}
-use lib.ListN.{length, take, replicate}
+use lib.ListN.{length}
 use lib.Seq.{take-length}
-use Rattle.field.specs.Field.{F, 𝟎, 𝟏, _⊙_, ⊙-one}
+use Rattle.field.specs.Field.{F, _⊙_, ⊙-one}
 use Rattle.series.specs.Series.{Series, _⊠_, K}
 use Rattle.series.specs.Word.{entry, entry-past}
 use Rattle.key_equation.specs.Shared.{or-one}
 use Rattle.key_equation.specs.Plain as Plain
-use Rattle.key_equation.specs.Run.{Form, Factors, At, Event, entering, iteration, joined, events, outset, happen, after, run}
-use Rattle.key_equation.specs.Run.{plain, lookahead, scaled, iterations, so-far, entered, measure, factors}
+use Rattle.key_equation.specs.Run.{Form, Factors, At, Event, joined, events, outset, happen, after, run}
+use Rattle.key_equation.specs.Run.{plain, lookahead, scaled, measure, factors}
 use Rattle.key_equation.specs.Claim.{lookahead-is, scaled-is}
 use Rattle.key_equation.specs.Ahead.{or-one-zero}
 use Rattle.key_equation.specs.Walk.{Keeps, wanted, run-is, end-iterations, end-entered}
@@ -30,46 +30,12 @@ pub run-end : (f : Form) (rounds : List (List F)) → run f rounds (length (even
 unfolding run finish
 run-end f rounds = ap (λ es. after f es (outset f)) (take-length (events rounds))
 
--- ---- one more
+-- ---- events one after the other
 
 pub after-append : (f : Form) (es fs : List Event) (p : At f) → after f (es ++ fs) p ≡ after f fs (after f es p)
 unfolding after
 after-append f [] fs p = refl
 after-append f (e ∷ es) fs p = after-append f es fs (happen f e p)
-
-events-append : (rounds more : List (List F)) → events (rounds ++ more) ≡ events rounds ++ events more
-unfolding events
-events-append [] more = refl
-events-append (round ∷ rest) more =
-    ap (λ t. entering round ∷ t)
-    (ap (λ t. replicate (length round) iteration ++ t) (events-append rest more)
-    ∙ sym (append-assoc (replicate (length round) iteration) (events rest) (events more)))
-
--- one round more
-pub finish-snoc : (f : Form) (rounds : List (List F)) (round : List F)
-    → finish f (rounds ++ (round ∷ [])) ≡ after f (replicate (length round) iteration) (happen f (entering round) (finish f rounds))
-unfolding finish events after
-finish-snoc f rounds round =
-    ap (λ es. after f es (outset f)) (events-append rounds (round ∷ []))
-    ∙ after-append f (events rounds) (events (round ∷ [])) (outset f)
-    ∙ ap (λ es. after f es (happen f (entering round) (finish f rounds))) (append-nil (replicate (length round) iteration))
-
--- one iteration more
-pub iterate-more : (f : Form) (n : ℕ) (p : At f)
-    → after f (replicate (suc n) iteration) p ≡ happen f iteration (after f (replicate n iteration) p)
-unfolding after
-iterate-more f zero p = refl
-iterate-more f (suc n) p = iterate-more f n (happen f iteration p)
-
--- ---- the end of a round
-
--- a round has ended where there have been as many iterations as syndromes
-pub round-end : (rounds : List (List F)) (k : ℕ) → iterations rounds k ≡ length (entered (take k (events rounds)))
-    → (so-far rounds k (iterations rounds k) ≡ 𝟎) × (or-one (so-far rounds k (iterations rounds k)) ≡ 𝟏)
-unfolding so-far
-round-end rounds k e =
-    let z = entry-past (entered (take k (events rounds))) (iterations rounds k) (omega arith) in
-    (z, or-one-zero _ z)
 
 -- ---- the end of the run
 

@@ -209,15 +209,6 @@ module _ (S : Series) (r : ℕ) where
   pub key-low : (i : ℕ) → i < r → (m .Λ ⊠ S) i ≡ v .P i
   key-low i h = ⊕-equal _ _ (sym (⊞-at _ _ i) ∙ ap (λ f. f i) (v .key) ∙ zpow-low _ _ i h)
 
-  pub key-at : (m .Λ ⊠ S ⊞ v .P) r ≡ Plain.δ r S m
-  key-at = ap (λ f. f r) (v .key) ∙ zpow-at0 _ _ ∙ D0 S r m v
-
-  pub aux-low : (i : ℕ) → i < r → (Z ⊠ m .B ⊠ S) i ≡ v .Q i
-  aux-low i h = ⊕-equal _ _ (sym (⊞-at _ _ i) ∙ ap (λ f. f i) (v .aux) ∙ zpow-low _ _ i h)
-
-  pub aux-at : (Z ⊠ m .B ⊠ S ⊞ v .Q) r ≡ m .γ
-  aux-at = ap (λ f. f r) (v .aux) ∙ zpow-at0 _ _ ∙ v .E0
-
   -- statement 3
   pub c≢0 : c S r ≢ 𝟎
   unfolding c

@@ -5,7 +5,7 @@
 --   wanted J known r   where a run in such a form is to be, J being the joined syndromes and `known` those so far
 --
 -- Proved: how many iterations a run has had (run-r); where every run is, as one equation (run-is); how far it has come (iterations-le), and what
--- its end is (end-iterations, end-so-far).
+-- its end is (end-iterations, end-entered).
 use Prim.Native.Nat.{ℕ, zero, suc, _+_, _≤_}
 use mathlib.Core.Path.{_≡_, refl, sym, ap, _∙_}
 use mathlib.Core.Logic.{_≢_}
@@ -158,7 +158,3 @@ end-iterations rounds = ap count (take-length (events rounds)) ∙ all-counted r
 
 pub end-entered : (rounds : List (List F)) → entered (take (length (events rounds)) (events rounds)) ≡ joined rounds
 end-entered rounds = ap entered (take-length (events rounds)) ∙ all-entered rounds
-
-pub end-so-far : (rounds : List (List F)) → so-far rounds (length (events rounds)) ≡ entry (joined rounds)
-unfolding so-far
-end-so-far rounds = ap entry (end-entered rounds)

@@ -1,6 +1,7 @@
 // Polynomials over GF(256) with at most 49 coefficients: sums and scalars.
 // A loop of products runs 16 at a time, and only over coefficients that may differ from zero.
-// The promises are equations of power series: `poly f` is the array f as a polynomial. A table of 48 syndromes is a sequence, `row s`.
+// The promises are equations of power series: `poly f` is the array f as a polynomial. A table of 48 syndromes is a
+// sequence, `row s`.
 pub mod shift;
 pub mod syndromes;
 
@@ -16,17 +17,20 @@ use field::Gf;
 // The product with no table, for the scalars of those who multiply polynomials.
 pub use kernel::product;
 
-// Coefficient i stands at index i.
+// How many coefficients a polynomial has: coefficient i stands at index i.
 pub const COEFFICIENTS: usize = 49;
 
+// The most syndromes of a word.
 pub const SYNDROMES: usize = 48;
 
+// The polynomial that is zero.
 pub fn zero() -> [Gf; COEFFICIENTS]
     ensures { λ r. ⌜ poly r ≡ O ⌝ }
 {
     [Gf::ZERO; COEFFICIENTS]
 }
 
+// The polynomial whose constant term is a and which has no other.
 pub fn constant(a: Gf) -> [Gf; COEFFICIENTS]
     ensures { λ r. ⌜ poly r ≡ K (val a) ⌝ }
 {
@@ -50,7 +54,7 @@ fn clear(f: [Gf; COEFFICIENTS], from: usize, to: usize) -> bool
     any == 0
 }
 
-// 16, 32 or 49: the coefficients from there on are zero.
+// An index, 16, 32 or 49, from which on the coefficients are zero.
 pub fn extent(f: [Gf; COEFFICIENTS]) -> usize
     ensures { λ n. ⌜ below n (poly f) × (n ≤ 49) ⌝ }
 {
@@ -63,6 +67,7 @@ pub fn extent(f: [Gf; COEFFICIENTS]) -> usize
     16
 }
 
+// The multiple a f.
 pub fn scale(a: Gf, f: [Gf; COEFFICIENTS]) -> [Gf; COEFFICIENTS]
     ensures { λ r. ⌜ poly r ≡ K (val a) ⊠ poly f ⌝ }
 {
@@ -82,6 +87,7 @@ pub fn scale(a: Gf, f: [Gf; COEFFICIENTS]) -> [Gf; COEFFICIENTS]
     out
 }
 
+// The sum f + g.
 pub fn sum(f: [Gf; COEFFICIENTS], g: [Gf; COEFFICIENTS]) -> [Gf; COEFFICIENTS]
     ensures { λ r. ⌜ poly r ≡ poly f ⊞ poly g ⌝ }
 {
@@ -94,7 +100,7 @@ pub fn sum(f: [Gf; COEFFICIENTS], g: [Gf; COEFFICIENTS]) -> [Gf; COEFFICIENTS]
     out
 }
 
-// a f + b g. In most iterations of a solver b is zero.
+// The sum a f + b g. In most iterations of a solver b is zero.
 pub fn combine(a: Gf, f: [Gf; COEFFICIENTS], b: Gf, g: [Gf; COEFFICIENTS]) -> [Gf; COEFFICIENTS]
     ensures { λ r. ⌜ poly r ≡ K (val a) ⊠ poly f ⊞ K (val b) ⊠ poly g ⌝ }
 {

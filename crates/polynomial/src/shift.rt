@@ -9,7 +9,7 @@ use field::Gf;
 // The highest degree.
 const DEGREE: usize = COEFFICIENTS - 1;
 
-// The top coefficient is lost.
+// The polynomial times z, whose top coefficient is lost.
 pub fn times_z(f: [Gf; COEFFICIENTS]) -> [Gf; COEFFICIENTS]
     ensures { λ r. ⌜ poly r ≡ cut 49 (Z ⊠ poly f) ⌝ }
 {
@@ -22,7 +22,7 @@ pub fn times_z(f: [Gf; COEFFICIENTS]) -> [Gf; COEFFICIENTS]
     out
 }
 
-// The constant term is lost.
+// The polynomial divided by z, whose constant term is lost.
 pub fn over_z(f: [Gf; COEFFICIENTS]) -> [Gf; COEFFICIENTS]
     ensures { λ r. ⌜ poly r ≡ tail (poly f) ⌝ }
 {

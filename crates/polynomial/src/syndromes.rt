@@ -19,7 +19,7 @@ const HIGHEST: usize = 95;
 // Room for 49 entries from any index up to HIGHEST on.
 const REVERSED: usize = 144;
 
-// Zero past the table's end.
+// Entry i of a table, and zero past its end.
 pub fn coefficient(s: [Gf; SYNDROMES], i: usize) -> Gf
     ensures { λ r. ⌜ val r ≡ Row s i ⌝ }
 {
@@ -29,7 +29,8 @@ pub fn coefficient(s: [Gf; SYNDROMES], i: usize) -> Gf
     Gf::ZERO
 }
 
-// The syndromes from 95 down, 48 zeros and S_47 to S_0, then zeros: coefficient r of a product reads them from index 95 - r on.
+// The syndromes from 95 down, 48 zeros and S_47 to S_0, then zeros: coefficient r of a product reads them from index 95
+// - r on.
 pub fn reversed(s: [Gf; SYNDROMES]) -> [u8; REVERSED]
     ensures { λ t. ⌜ bytes t ≡ Reversed 95 (Row s) ⌝ }
 {
@@ -58,7 +59,7 @@ fn products(f: [Gf; COEFFICIENTS], t: &[u8; REVERSED], at: usize) -> [Gf; COEFFI
     out
 }
 
-// Coefficient r of the product with the series that t has reversed.
+// Coefficient r of the product of a polynomial and the series that t has reversed.
 pub fn convolve_reversed(f: [Gf; COEFFICIENTS], t: &[u8; REVERSED], r: usize) -> Gf
     ensures { λ d. ⌜ ((g : Series) → below 48 g → bytes (now (t .entry)) ≡ Reversed 95 g → val d ≡ (poly f ⊠ g) r) ⌝ }
 {
@@ -75,7 +76,7 @@ pub fn convolve_reversed(f: [Gf; COEFFICIENTS], t: &[u8; REVERSED], r: usize) ->
     d
 }
 
-// Coefficient r of the product.
+// Coefficient r of the product of a polynomial and a table.
 pub fn convolve(f: [Gf; COEFFICIENTS], s: [Gf; SYNDROMES], r: usize) -> Gf
     ensures { λ d. ⌜ val d ≡ (poly f ⊠ Row s) r ⌝ }
 {

@@ -3,14 +3,13 @@
 --   holds d   the decision d as a Boolean (the library's `decide`)
 --   all? n d  whether P i for every i below n, given d i whether P i
 --
--- Proved: `holds d` is true just where d's proposition is, as an equation and as a test `T`.
+-- Proved: `holds d` is true where d's proposition holds (holds-yes), and false where it does not (holds-no).
 use Prim.Native.Nat.{ℕ, zero, suc, _<_}
 use mathlib.Core.Path.{_≡_, refl, sym, subst}
 use mathlib.Core.Logic.{Dec·and, Dec·of-iff, by-cases}
 use mathlib.Core.Bool.{true, false, decide-iff}
 use native.Mathlib.Omega.{arith}
 use native.Mathlib.Decide.{ℕ-discrete}
-use lib.Dec.{T}
 unfoldable pub use mathlib.Core.Bool.{decide as holds}
 
 pub holds-yes : {A : Type 0} (d : Dec A) → A → holds d ≡ true
@@ -20,14 +19,6 @@ pub holds-no : {A : Type 0} (d : Dec A) → ¬ A → holds d ≡ false
 unfolding holds
 holds-no (yes a) h = absurd (h a)
 holds-no (no n) h = refl
-
-pub holds-sound : {A : Type 0} (d : Dec A) → T (holds d) → A
-unfolding holds
-holds-sound (yes a) t = a
-holds-sound (no n) t = absurd t
-
-pub holds-complete : {A : Type 0} (d : Dec A) → A → T (holds d)
-holds-complete d a = rw (holds-yes d a) tt
 
 unfoldable pub all? : (n : ℕ) {P : ℕ → Type 0} → ((i : ℕ) → Dec (P i)) → Dec ((i : ℕ) → i < n → P i)
 all? zero d = yes (λ i h. absurd (omega arith))

@@ -1,15 +1,15 @@
 -- Parts of arrays as series: what a part that is lent holds, and what the whole holds when the part is back.
 --
---   splice a n y l   the list l with y in place of the n entries from a on; it keeps the length (length-splice)
+--   splice a n y l   the list l with y in place of the n entries from a on
 --
 -- Proved, for arrays as series (`read` of Array): entries of beginnings, ends and joined lists (read-take, read-drop, read-left, read-right); a part is the
--- series from a on, cut at n (read-part, read-prefix); the whole with another part in it has the new part inside (splice-inside) and is as it was outside
--- (splice-before, splice-after).
+-- series from a on, cut at n (read-part, read-prefix); the whole with another part in it has the new part inside (splice-inside) and is as it was after
+-- it (splice-after).
 use Prim.Native.Nat.{ℕ, _+_, _-_, _≤_, _<_}
 use mathlib.Core.Path.{_≡_, sym, ap, _∙_}
 use mathlib.Core.List.{List, _++_}
 use native.Mathlib.Omega.{arith}
-use lib.ListN.{length, take, drop as drop-list, length-drop, length-append, List·getD-append}
+use lib.ListN.{length, take, drop as drop-list, length-drop, List·getD-append}
 use lib.Seq.{getD-take, getD-drop, getD-append-add, length-take-le}
 use Rattle.field.specs.Field.{F, 𝟎}
 use Rattle.series.specs.Shift.{cut, cut-unique, drop, drop-at}
@@ -17,14 +17,6 @@ use Rattle.series.specs.Array.{read, read-at, below-read}
 
 abbrev pub splice : {A : Type 0} → ℕ → ℕ → List A → List A → List A
 splice a n y l = take a l ++ (y ++ drop-list n (drop-list a l))
-
-pub length-splice : {A : Type 0} (a n : ℕ) (y l : List A) → length y ≡ n → a + n ≤ length l → length (splice a n y l) ≡ length l
-length-splice a n y l e h =
-    let inner = length-append y (drop-list n (drop-list a l)) in
-    let rest = length-drop n (drop-list a l) in
-    let x : length (take a l) + length (y ++ drop-list n (drop-list a l)) ≡ length l =
-    omega (arith, inner, rest, length-drop a l, length-take-le a l (omega arith), e) in
-    length-append (take a l) (y ++ drop-list n (drop-list a l)) ∙ x
 
 module _ {A : Type 0} (m : A → F) (d : A) where
   pub read-take : (n : ℕ) (l : List A) (i : ℕ) → i < n → read m d (take n l) i ≡ read m d l i
@@ -51,9 +43,6 @@ module _ {A : Type 0} (m : A → F) (d : A) where
       (λ i q. below-read m d z (take n l) i (omega (arith, length-take-le n l h))))
 
   module _ (a n : ℕ) (y l : List A) (h : a ≤ length l) where
-    pub splice-before : (i : ℕ) → i < a → read m d (splice a n y l) i ≡ read m d l i
-    splice-before i q = read-left (take a l) _ i (omega (arith, length-take-le a l h)) ∙ read-take a l i q
-
     pub splice-inside : length y ≡ n → (i : ℕ) → i < n → read m d (splice a n y l) (a + i) ≡ read m d y i
     splice-inside e i q =
         ap (λ (x : ℕ). read m d (splice a n y l) (x + i)) (sym (length-take-le a l h))

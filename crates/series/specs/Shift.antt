@@ -93,12 +93,6 @@ drop-suc n f = fun-ext (λ i. simp (drop-at, tail-at, suc-add, add-suc))
 pub drop-⊞ : (n : ℕ) (f g : Series) → drop n (f ⊞ g) ≡ drop n f ⊞ drop n g
 drop-⊞ n f g = fun-ext (λ i. simp (drop-at, ⊞-at))
 
-pub drop-K-⊠ : (n : ℕ) (a : F) (f : Series) → drop n (K a ⊠ f) ≡ K a ⊠ drop n f
-drop-K-⊠ n a f = fun-ext (λ i. simp (drop-at, K-⊠-at))
-
-pub drop-Z-⊠ : (n : ℕ) (f : Series) → drop (suc n) (Z ⊠ f) ≡ drop n f
-drop-Z-⊠ n f = fun-ext (λ i. simp (drop-at, suc-add, Z-⊠-at))
-
 pub drop-zpow : (n : ℕ) (f : Series) → drop n (zpow n ⊠ f) ≡ f
 drop-zpow n f = fun-ext (λ i. simp (drop-at, zpow-at))
 

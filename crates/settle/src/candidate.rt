@@ -1,7 +1,7 @@
-// The error pattern that a locator puts forward, whatever the locator is. What the promises speak of stands in settling's specs/Candidate.antt, and for
-// the walk over the positions in specs/CandidateLocated.antt.
-// One root is found by logarithms. For more a walk over the locator's values at all positions: where it is zero, the locator and the numerator put a
-// change forward.
+// The error pattern that a locator puts forward, whatever the locator is. What the promises speak of stands in
+// settling's specs/Candidate.antt, and for the walk over the positions in specs/CandidateLocated.antt.
+// One root is found by logarithms. For more a walk over the locator's values at all positions: where it is zero, the
+// locator and the numerator put a change forward.
 ghost use Prim.Native.Nat.{_+_, _≤_};
 ghost use mathlib.Core.Path.{_≡_};
 ghost use mathlib.Core.Logic.{_≢_};
@@ -13,17 +13,16 @@ ghost use Rattle.series.specs.Array.{bytes};
 ghost use Rattle.polynomial.specs.Polynomial.{poly};
 ghost use Rattle.settling.specs.Locator.{W};
 ghost use Rattle.settle.specs.CandidateLocated.{Walked};
+use crate::TERMS;
 use field::Exponent;
 use field::Gf;
 use polynomial::COEFFICIENTS;
-
-// Coefficients of a locator of 24 changes.
-pub const TERMS: usize = 25;
+use profile::POSITIONS;
 
 // Whether the walk met as many roots as it should; what was put forward at the positions that it went through.
 pub struct Located {
     pub whole: bool,
-    pub pattern: [Gf; 255],
+    pub pattern: [Gf; POSITIONS],
 }
 
 // The first k coefficients, those of even powers zero.
@@ -56,15 +55,17 @@ fn forney(p: usize, denominator: &[u8], numerator: &[u8]) -> Gf
     kernel::product(scaled, bottom.inverse())
 }
 
-// From position 0 on, until no root is missing, or the positions that are left are fewer than the roots that are.
+// Walks the positions from 0 on, until no root is missing, or the positions that are left are fewer than the roots that
+// are.
 fn walk(locator: [Gf; COEFFICIENTS], numerator: &[u8], roots: usize, n: usize) -> Located
     requires { ⌜ (roots ≤ 24) × (n ≤ 255) × (length (now numerator) ≤ roots + 1) ⌝ }
-    ensures { λ r. ⌜ Walked n (roots + 1) roots (poly locator) (bytes (now (numerator .entry))) (r .whole) (r .pattern) ⌝ }
+    ensures { λ r. ⌜ Walked n (roots + 1) roots (poly locator) (bytes (now (numerator .entry)))
+        (r .whole) (r .pattern) ⌝ }
 {
     let k = roots + 1;
     let values = crate::positions::values(locator, k);
     let odds = odd_part(locator, k);
-    let mut pattern = [Gf::ZERO; 255];
+    let mut pattern = [Gf::ZERO; POSITIONS];
     let mut missing: usize = roots;
     let mut p: usize = 0;
     while 0 < missing {
@@ -100,8 +101,9 @@ fn short_value(w: Gf, word: &[u8]) -> Gf
     Gf(v)
 }
 
-// A locator of two terms has its one root at W p if its second coefficient is α^p times its first one: logarithms give p. There the odd part is W p
-// times the second coefficient, so that the change is the numerator's value divided by that.
+// A locator of two terms has its one root at W p if its second coefficient is α^p times its first one: logarithms give
+// p. There the odd part is W p times the second coefficient, so that the change is the numerator's value divided by
+// that.
 fn locate_one(locator: [Gf; COEFFICIENTS], numerator: &[u8], n: usize) -> Located
     requires { ⌜ (n ≤ 255) × (length (now numerator) ≤ 2) × (poly locator 0 ≢ 𝟎) × (poly locator 1 ≢ 𝟎) ⌝ }
     ensures { λ r. ⌜ Walked n 2 1 (poly locator) (bytes (now (numerator .entry))) (r .whole) (r .pattern) ⌝ }
@@ -111,7 +113,7 @@ fn locate_one(locator: [Gf; COEFFICIENTS], numerator: &[u8], n: usize) -> Locate
     let i = a.log();
     let j = b.log();
     let p = (j.0 + (255 - i.0)) % 255;
-    let mut pattern = [Gf::ZERO; 255];
+    let mut pattern = [Gf::ZERO; POSITIONS];
     if n <= p {
         return Located {
             whole: false,
@@ -126,10 +128,11 @@ fn locate_one(locator: [Gf; COEFFICIENTS], numerator: &[u8], n: usize) -> Locate
     }
 }
 
-// One root at once, more by the walk.
+// The pattern that a locator puts forward: one root is found at once, more by the walk.
 pub fn locate(locator: [Gf; COEFFICIENTS], numerator: &[u8], roots: usize, n: usize) -> Located
     requires { ⌜ (roots ≤ 24) × (n ≤ 255) × (length (now numerator) ≤ roots + 1) ⌝ }
-    ensures { λ r. ⌜ Walked n (roots + 1) roots (poly locator) (bytes (now (numerator .entry))) (r .whole) (r .pattern) ⌝ }
+    ensures { λ r. ⌜ Walked n (roots + 1) roots (poly locator) (bytes (now (numerator .entry)))
+        (r .whole) (r .pattern) ⌝ }
 {
     if roots == 1 {
         let a = locator[0];

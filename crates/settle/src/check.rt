@@ -15,6 +15,7 @@ ghost use Rattle.settling.specs.Definition.{explains?};
 ghost use Rattle.settle.specs.Effect.{Powers, same?};
 use field::Gf;
 use polynomial::SYNDROMES;
+use profile::POSITIONS;
 
 // Whether a pattern explains a row of syndromes, and how many symbols it changes.
 pub struct Tested {
@@ -40,8 +41,8 @@ fn exponent(e: usize, p: usize) -> usize
     s - 255
 }
 
-// The first m syndromes of a change y, which is not zero, at position p are added: each is a power of α, and its exponent p more than the one before,
-// so that no lookup waits for another.
+// Adds the first m syndromes of a change y, which is not zero, at position p: each is a power of α, and its exponent p
+// more than the one before, so that no lookup waits for another.
 fn add_change(power: &[u8; 256], p: usize, y: Gf, m: usize, to: &mut [u8])
     requires { ⌜ Powers (now power) × (p < 255) × (val y ≢ 𝟎) × (m ≤ length (now to)) ⌝ }
     ensures { λ _. ⌜ bytes (now (to .exit)) ≡ bytes (now (to .entry)) ⊞ K (val y) ⊠ cut m (λ j. pow (root j) p) ⌝ }
@@ -56,7 +57,7 @@ fn add_change(power: &[u8; 256], p: usize, y: Gf, m: usize, to: &mut [u8])
     }
 }
 
-// The same, if it is a change, with the count of changes.
+// Adds the first m syndromes of y at position p, if it is a change, and counts it.
 fn count_change(power: &[u8; 256], count: usize, p: usize, y: Gf, m: usize, to: &mut [u8]) -> usize
     requires { ⌜ Powers (now power) × (count < 255) × (p < 255) × (m ≤ length (now to)) ⌝ }
     ensures { λ r. ⌜ (r ≡ ite (val y ≟ 𝟎) count (suc count)) ×
@@ -69,10 +70,11 @@ fn count_change(power: &[u8; 256], count: usize, p: usize, y: Gf, m: usize, to: 
     count + 1
 }
 
-// Of the symbols below n, and m syndromes.
-fn effect_of(pattern: [Gf; 255], n: usize, m: usize) -> Effect
+// How many of the symbols below n a pattern changes, and its first m syndromes.
+fn effect_of(pattern: [Gf; POSITIONS], n: usize, m: usize) -> Effect
     requires { ⌜ (n ≤ 255) × (m ≤ 48) ⌝ }
-    ensures { λ r. ⌜ (r .count ≡ weight n (values pattern)) × (bytes (r .syndromes) ≡ cut m (syndrome n (values pattern))) ⌝ }
+    ensures { λ r. ⌜ (r .count ≡ weight n (values pattern))
+        × (bytes (r .syndromes) ≡ cut m (syndrome n (values pattern))) ⌝ }
 {
     let power = field::powers();
     let mut syndromes = [0u8; SYNDROMES];
@@ -104,9 +106,11 @@ fn agree(l: [u8; SYNDROMES], row: [Gf; SYNDROMES], m: usize) -> bool
     true
 }
 
-pub fn test(pattern: [Gf; 255], row: [Gf; SYNDROMES], n: usize, t: usize) -> Tested
+// Puts a pattern to the test: the symbols below n, and the first 2t syndromes of the row.
+pub fn test(pattern: [Gf; POSITIONS], row: [Gf; SYNDROMES], n: usize, t: usize) -> Tested
     requires { ⌜ (n ≤ 255) × (t ≤ 24) ⌝ }
-    ensures { λ r. ⌜ (r .count ≡ weight n (values pattern)) × (r .explains ≡ holds (explains? t n (Row row) (values pattern))) ⌝ }
+    ensures { λ r. ⌜ (r .count ≡ weight n (values pattern))
+        × (r .explains ≡ holds (explains? t n (Row row) (values pattern))) ⌝ }
 {
     let m = t + t;
     let effect = effect_of(pattern, n, m);

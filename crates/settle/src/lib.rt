@@ -1,5 +1,5 @@
-// Settling one subword: the pattern that a locator puts forward, by `candidate`, and its test. What the promises speak of stands in settling's
-// specs/Definition.antt, and for the answer in specs/Answer.antt.
+// Settling one subword: the pattern that a locator puts forward, by `candidate`, and its test. What the promises speak
+// of stands in settling's specs/Definition.antt, and for the answer in specs/Answer.antt.
 mod candidate;
 mod check;
 mod numerator;
@@ -16,27 +16,33 @@ ghost use Rattle.settle.specs.Answer.{answer, Nothing, Sound};
 use field::Gf;
 use polynomial::COEFFICIENTS;
 use polynomial::SYNDROMES;
+use profile::POSITIONS;
 
-// The pattern that settles a subword, and how many symbols it changes; or that none was found, and then the pattern is zero.
+// The terms of a locator of 24 changes.
+const TERMS: usize = 25;
+
+// The pattern that settles a subword, and how many symbols it changes; or that none was found, and then the pattern is
+// zero.
 pub struct Settled {
     pub found: bool,
     pub count: u8,
-    pub pattern: [Gf; 255],
+    pub pattern: [Gf; POSITIONS],
 }
 
-// Nothing was found.
+// The answer that nothing was found.
 fn nothing() -> Settled
     ensures { λ r. ⌜ Nothing r ⌝ }
 {
     Settled {
         found: false,
         count: 0,
-        pattern: [Gf::ZERO; 255],
+        pattern: [Gf::ZERO; POSITIONS],
     }
 }
 
-// The subword has n symbols; of its syndromes the first 2t count. Whatever the locator and its length are, the pattern that is found explains them.
-// If they are the key-equation solver's after these syndromes, in any of its forms, the answer is what settles the subword.
+// The subword has n symbols; of its syndromes the first 2t count. Whatever the locator and its length are, the pattern
+// that is found explains them. If they are the key-equation solver's after these syndromes, in any of its forms, the
+// answer is what settles the subword.
 pub fn settle(
     locator: [Gf; COEFFICIENTS],
     length: usize,
@@ -46,7 +52,8 @@ pub fn settle(
 ) -> Settled
     requires { ⌜ (n ≤ 255) × (t ≤ 24) ⌝ }
     ensures sound { λ r. ⌜ Sound t n (Row row) r ⌝ }
-    ensures settled { λ r. ⌜ (Multiple (poly locator) (measure (Row row) (2 * t) .Λ) → length ≡ Length (Row row) (2 * t) → answer n r ≡ Settle t n (Row row)) ⌝ }
+    ensures settled { λ r. ⌜ (Multiple (poly locator) (measure (Row row) (2 * t) .Λ)
+        → length ≡ Length (Row row) (2 * t) → answer n r ≡ Settle t n (Row row)) ⌝ }
 {
     if t < length {
         return nothing();

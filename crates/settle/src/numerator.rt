@@ -7,20 +7,21 @@ ghost use Rattle.series.specs.Series.{K, _⊞_, _⊠_};
 ghost use Rattle.series.specs.Shift.{zpow, cut};
 ghost use Rattle.series.specs.Array.{bytes};
 ghost use Rattle.polynomial.specs.Polynomial.{poly, row as Row};
+use crate::TERMS;
 use field::Gf;
 use polynomial::COEFFICIENTS;
 use polynomial::SYNDROMES;
 
-// Coefficients of a numerator of 24 changes, and one more.
-pub const TERMS: usize = 25;
+// How many syndromes a term is multiplied with: more than the numerator needs, so that many are taken at a time.
+const LANES: usize = 32;
 
-// The locator's coefficient c at z^a times the first 32 syndromes is added: more than the numerator needs, so that many are taken at a time.
+// Adds the locator's coefficient c at z^a times the first 32 syndromes.
 fn add_term(c: Gf, a: usize, row: [Gf; SYNDROMES], to: &mut [u8])
     requires { ⌜ a + 32 ≤ length (now to) ⌝ }
     ensures { λ _. ⌜ bytes (now (to .exit)) ≡ bytes (now (to .entry)) ⊞ zpow a ⊠ cut 32 (K (val c) ⊠ Row row) ⌝ }
 {
     let mut j: usize = 0;
-    while j < 32 {
+    while j < LANES {
         let g = row[j];
         let q = a + j;
         to[q] = to[q] ^ kernel::multiply(g.0, c.0);
@@ -28,17 +29,13 @@ fn add_term(c: Gf, a: usize, row: [Gf; SYNDROMES], to: &mut [u8])
     }
 }
 
-// The first m bytes.
+// The first m bytes of a word, then zeros.
 fn first_bytes(from: &[u8], m: usize) -> [u8; TERMS]
     requires { ⌜ (m ≤ 25) × (m ≤ length (now from)) ⌝ }
     ensures { λ r. ⌜ bytes r ≡ cut m (bytes (now (from .entry))) ⌝ }
 {
     let mut out = [0u8; TERMS];
-    let mut i: usize = 0;
-    while i < m {
-        out[i] = from[i];
-        i = i + 1;
-    }
+    kernel::copy(&from[..m], &mut out[..m]);
     out
 }
 
@@ -47,7 +44,7 @@ pub fn numerator(locator: [Gf; COEFFICIENTS], row: [Gf; SYNDROMES], m: usize) ->
     requires { ⌜ m ≤ 25 ⌝ }
     ensures { λ r. ⌜ bytes r ≡ cut m (poly locator ⊠ Row row) ⌝ }
 {
-    let mut sum = [0u8; 57];
+    let mut sum = [0u8; TERMS + LANES];
     let mut i: usize = 0;
     while i < m {
         add_term(locator[i], i, row, &mut sum);

@@ -1,6 +1,6 @@
-// The values of a polynomial at the inverse locations of all positions, three positions at a time. Term i of the value at W p is held as an exponent
-// of α: from a position to the next it loses i, modulo 255, so thirty-two terms go on at once with no product. The 85 positions from p = 0 on do for
-// all 255, since W 85 has order three.
+// The values of a polynomial at the inverse locations of all positions, three positions at a time. Term i of the value
+// at W p is held as an exponent of α: from a position to the next it loses i, modulo 255, so thirty-two terms go on at
+// once with no product. The 85 positions from p = 0 on do for all 255, since W 85 has order three.
 ghost use Prim.Native.Nat.{_+_, _≤_, _<_};
 ghost use mathlib.Core.Path.{_≡_};
 ghost use mathlib.Core.Logic.{ite};
@@ -20,9 +20,10 @@ use field::Exponent;
 use field::Gf;
 use kernel::wide;
 use polynomial::COEFFICIENTS;
+use profile::POSITIONS;
 
-// Room for 25 terms, those of a locator of 24 changes: sixteen bytes are taken at a time.
-const TERMS: usize = 32;
+// Room for the 25 terms of a locator of 24 changes: sixteen bytes are taken at a time.
+const LANES: usize = 32;
 
 // The sums of the terms whose index is 0, 1 or 2 modulo 3; or the values at three positions, 85 from one another.
 struct Three {
@@ -42,12 +43,12 @@ fn exponent(g: Gf) -> u8
     e.0 as u8
 }
 
-// Of the first k coefficients, the terms at position 0.
-fn exponents(f: [Gf; COEFFICIENTS], k: usize) -> [u8; TERMS]
+// The terms of the first k coefficients at position 0, as exponents.
+fn exponents(f: [Gf; COEFFICIENTS], k: usize) -> [u8; LANES]
     requires { ⌜ k ≤ 25 ⌝ }
     ensures { λ r. ⌜ symbols r ≡ cut k (poly f) ⌝ }
 {
-    let mut out = [255u8; TERMS];
+    let mut out = [255u8; LANES];
     let mut i: usize = 0;
     while i < k {
         out[i] = exponent(f[i]);
@@ -67,13 +68,13 @@ fn step(e: u8, i: usize) -> u8
     i as u8
 }
 
-// Of k terms, and nothing after them. A loop over all 32 would be unrolled, and what it makes put together from pieces again in every pass of
-// `values`.
-fn steps(e: [u8; TERMS], k: usize) -> [u8; TERMS]
+// What each of k terms loses from a position to the next, and nothing after them. A loop over all 32 would be unrolled,
+// and what it makes put together from pieces again in every pass of `values`.
+fn steps(e: [u8; LANES], k: usize) -> [u8; LANES]
     requires { ⌜ (k ≤ 32) × below k (symbols e) ⌝ }
     ensures { λ r. ⌜ Steps (symbols e) r ⌝ }
 {
-    let mut out = [0u8; TERMS];
+    let mut out = [0u8; LANES];
     let mut i: usize = 0;
     while i < k {
         out[i] = step(e[i], i);
@@ -94,21 +95,21 @@ fn back(e: u8, s: u8) -> u8
 }
 
 // The terms at the next position: no table and no branch, so the compiler takes sixteen of them at a time.
-fn next(e: [u8; TERMS], step: [u8; TERMS]) -> [u8; TERMS]
+fn next(e: [u8; LANES], step: [u8; LANES]) -> [u8; LANES]
     requires { ⌜ Steps (symbols e) step ⌝ }
     ensures { λ r. ⌜ symbols r ≡ terms (W 1) (symbols e) ⌝ }
 {
-    let mut out = [255u8; TERMS];
+    let mut out = [255u8; LANES];
     let mut i: usize = 0;
-    while i < TERMS {
+    while i < LANES {
         out[i] = back(e[i], step[i]);
         i = i + 1;
     }
     out
 }
 
-// Term i.
-fn term(power: &[u8; 256], e: &[u8; TERMS], i: usize) -> u8
+// Term i as a symbol.
+fn term(power: &[u8; 256], e: &[u8; LANES], i: usize) -> u8
     requires { ⌜ Table (now power) × (length (now e) ≡ 32) × (i < 32) ⌝ }
     ensures { λ r. ⌜ of r ≡ symbols (now (e .entry)) i ⌝ }
 {
@@ -116,7 +117,7 @@ fn term(power: &[u8; 256], e: &[u8; TERMS], i: usize) -> u8
 }
 
 // The sums of every third of k terms.
-fn sums(power: &[u8; 256], e: &[u8; TERMS], k: usize) -> Three
+fn sums(power: &[u8; 256], e: &[u8; LANES], k: usize) -> Three
     requires { ⌜ Table (now power) × (length (now e) ≡ 32) × (k ≤ 25) × below k (symbols (now e)) ⌝ }
     ensures { λ r. ⌜ (of (r .a) ≡ third 0 9 (symbols (now (e .entry)))) ×
         (of (r .b) ≡ third 1 9 (symbols (now (e .entry)))) ×
@@ -135,7 +136,8 @@ fn sums(power: &[u8; 256], e: &[u8; TERMS], k: usize) -> Three
     Three { a: a, b: b, c: c }
 }
 
-// The values at three positions from the sums at the first of them: with w = W 85, w·w is w + 1, so two products are enough.
+// The values at three positions from the sums at the first of them: with w = W 85, w·w is w + 1, so two products are
+// enough.
 fn spread(row: &[u8; 256], s: Three) -> Three
     requires { ⌜ ProductRow (now row) × (factor (now row) ≡ W 85) ⌝ }
     ensures { λ r. ⌜ (of (r .a) ≡ three (W 0) (of (s .a)) (of (s .b)) (of (s .c))) ×
@@ -152,7 +154,7 @@ fn spread(row: &[u8; 256], s: Three) -> Three
 }
 
 // The values of the polynomial with the first k coefficients of f at W 0 to W 254.
-pub fn values(f: [Gf; COEFFICIENTS], k: usize) -> [u8; 255]
+pub fn values(f: [Gf; COEFFICIENTS], k: usize) -> [u8; POSITIONS]
     requires { ⌜ k ≤ 25 ⌝ }
     ensures { λ r. ⌜ bytes r ≡ cut 255 (λ p. value k (poly f) (W p)) ⌝ }
 {
@@ -161,7 +163,7 @@ pub fn values(f: [Gf; COEFFICIENTS], k: usize) -> [u8; 255]
     let row = kernel::product_row(Exponent(170).power());
     let mut e = exponents(f, k);
     let step = steps(e, k);
-    let mut out = [0u8; 255];
+    let mut out = [0u8; POSITIONS];
     let mut p: usize = 0;
     while p < 85 {
         let s = sums(&power, &e, k);

@@ -7,11 +7,10 @@
 -- Proved, for Λ a multiple of the measure's after 2t iterations over s, and Ω = Λ·s below m: s is settled by the candidate if the candidate explains
 -- it, and else by nothing (settle-candidate). With L the length it is enough to read L + 1 coefficients of Λ and L of Λ·s. A test that fails early is
 -- right to answer none: nothing settles s if L exceeds t (settle-long) or is not the number of roots at positions below n (settle-roots).
--- What settles s has L changes (settled-length). That a candidate that explains is what settles, whatever Λ and Ω are, is `settle-one`.
+-- That a candidate that explains is what settles, whatever Λ and Ω are, is `settle-one`.
 use Prim.Native.Nat.{ℕ, zero, suc, _*_, _≤_, _<_}
 use mathlib.Core.Path.{_≡_, sym, ap, ap₂, _∙_}
 use mathlib.Core.Logic.{_≢_, ite, if-pos, if-neg, by-cases}
-use mathlib.Core.List.{List}
 use mathlib.Core.Option.{none, some}
 use native.Mathlib.Omega.{arith}
 use Rattle.field.specs.Field.{F, 𝟎, 𝟏, _⊙_, _≟_, ⊙-zero, ⊙-ring, ⊙-nonzero, one≢zero, inv, mul-inv}
@@ -19,12 +18,12 @@ use Rattle.series.specs.Series.{Series, K, _⊞_, _⊠_, ⊠-ring, ⊞-lc, K-�
 use Rattle.series.specs.Shift.{cut, cut-unique}
 use Rattle.series.specs.Degree.{below-K-⊠, below-weaken}
 use Rattle.series.specs.Value.{value, value-K-⊠, odd, odd-K-⊠}
-use Rattle.series.specs.Word.{entry, word, weight, weight-none, weight-skip, weight-take}
+use Rattle.series.specs.Word.{word, weight, weight-none, weight-skip, weight-take}
 use Rattle.key_equation.specs.Run.{measure}
 use Rattle.key_equation.specs.Shortest.{invariant, length, key-low}
 use Rattle.settling.specs.Definition.{explains?, settle}
 use Rattle.settling.specs.Locator.{W, lead, lead-nonzero, locator, evaluator, locator-root, locator-apart, forney}
-use Rattle.settling.specs.Settle.{settle-some, settle-never, settle-test}
+use Rattle.settling.specs.Settle.{settle-never, settle-test}
 use Rattle.settling.specs.Solve.{Found, explained}
 
 -- inv (lead p) is w, the first root being α (lead-inv)
@@ -152,6 +151,3 @@ settle-roots t n k s Λ hn scaled enough h = settle-never t n s (λ e x. h (root
 
 pub settle-long : (t n : ℕ) (s : Series) → n ≤ 255 → t < length s (2 * t) → settle t n s ≡ none
 settle-long t n s hn h = settle-never t n s (λ e x. omega (arith, explained t n s e hn x .length-is, x .within))
-
-pub settled-length : (t n : ℕ) (s : Series) (w : List F) → n ≤ 255 → settle t n s ≡ some w → weight n (entry w) ≡ length s (2 * t)
-settled-length t n s w hn h = sym (explained t n s (entry w) hn (settle-some t n s w h .1) .length-is)

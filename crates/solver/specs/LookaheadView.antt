@@ -1,8 +1,9 @@
 -- What the states of the lookahead form's code stand for.
 --
 --   lookahead r p      the state of the definitions that p stands for, after r iterations
+--   lookahead-with s Λ B Δ Θ   s with other polynomials
 --   clip-lookahead s   s with the first 49 coefficients of its polynomials: all that an array holds
---   iterate-lookahead     an iteration in 49 coefficients
+--   iterate-lookahead  an iteration in 49 coefficients
 use Prim.Native.Nat.{ℕ}
 use Rattle.field.specs.Field.{val}
 use Rattle.series.specs.Series.{Series}
@@ -29,14 +30,14 @@ lookahead r p = record {
   h2 = val (p .h2);
 }
 
-unfoldable pub clip-lookahead : Lookahead.State → Lookahead.State
-clip-lookahead s = record {
-  Λ = cut 49 (s .Λ);
-  B = cut 49 (s .B);
+abbrev pub lookahead-with : Lookahead.State → (Λ B Δ Θ : Series) → Lookahead.State
+lookahead-with s Λ B Δ Θ = record {
+  Λ = Λ;
+  B = B;
   γ = s .γ;
   k = s .k;
-  Δ = cut 49 (s .Δ);
-  Θ = cut 49 (s .Θ);
+  Δ = Δ;
+  Θ = Θ;
   γS = s .γS;
   δS = s .δS;
   θS = s .θS;
@@ -45,6 +46,9 @@ clip-lookahead s = record {
   h1 = s .h1;
   h2 = s .h2;
 }
+
+unfoldable pub clip-lookahead : Lookahead.State → Lookahead.State
+clip-lookahead s = lookahead-with s (cut 49 (s .Λ)) (cut 49 (s .B)) (cut 49 (s .Δ)) (cut 49 (s .Θ))
 
 abbrev pub iterate-lookahead : Series → ℕ → Lookahead.State → Lookahead.State
 iterate-lookahead S r m = clip-lookahead (Lookahead.iterate r S m)

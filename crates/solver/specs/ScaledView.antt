@@ -1,8 +1,9 @@
 -- What the states of the scaled form's code stand for, and an iteration from its products.
 --
 --   scaled r p                the state of the definitions that p stands for, after r iterations
+--   scaled-with s Λ B Δ Θ     s with other polynomials
 --   clip-scaled s             s with the first 49 coefficients of its polynomials: all that an array holds
---   iterate-scaled               an iteration in 49 coefficients
+--   iterate-scaled            an iteration in 49 coefficients
 --   Products-of s a b c e     a, b, c and e are the products of an iteration of s, clipped: ρ_S Λ, ξ_S zB, ρ Δ/z and ξ Θ
 --   stepped r S a b c e y t   the state for iteration r, from the products of the one before: B becomes y, and Θ becomes t with y added unless S_r = 0
 use Prim.Native.Nat.{ℕ}
@@ -31,20 +32,23 @@ scaled r p = record {
   ξS = val (p .«xi_s»);
 }
 
-unfoldable pub clip-scaled : State → State
-clip-scaled s = record {
-  Λ = cut 49 (s .Λ);
-  B = cut 49 (s .B);
+abbrev pub scaled-with : State → (Λ B Δ Θ : Series) → State
+scaled-with s Λ B Δ Θ = record {
+  Λ = Λ;
+  B = B;
   γ′ = s .γ′;
   k = s .k;
-  Δ = cut 49 (s .Δ);
-  Θ = cut 49 (s .Θ);
+  Δ = Δ;
+  Θ = Θ;
   g = s .g;
   ρ = s .ρ;
   ξ = s .ξ;
   ρS = s .ρS;
   ξS = s .ξS;
 }
+
+unfoldable pub clip-scaled : State → State
+clip-scaled s = scaled-with s (cut 49 (s .Λ)) (cut 49 (s .B)) (cut 49 (s .Δ)) (cut 49 (s .Θ))
 
 abbrev pub iterate-scaled : Series → ℕ → State → State
 iterate-scaled S r m = clip-scaled (iterate r S m)

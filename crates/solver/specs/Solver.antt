@@ -5,10 +5,10 @@
 --   Is f r s m        s is a solver in the form f, in the state m after r iterations
 --   k-in f m          k of such a state
 --   clip f m          m with the first 49 coefficients of its polynomials: all that an array holds
---   iterate-clipped f S r m      m after iteration r over S, clipped
+--   iterate-clipped f S r m   m after iteration r over S, clipped
 --
--- Proved: what holds in the form that a solver has, holds in the form that it is said to have (for-form); a run of at most 48 syndromes loses
--- nothing by clip (clip-run).
+-- Proved: what holds in the form that a solver has, holds in the form that it is said to have (for-form); a run of at
+-- most 48 syndromes loses nothing by clip (clip-run).
 use Prim.Native.Nat.{ℕ, _≤_}
 use mathlib.Core.Path.{_≡_, sym, _∙_, subst}
 use mathlib.Core.List.{List}
@@ -16,15 +16,16 @@ use lib.IntN.{ℤ}
 use lib.ListN.{length}
 use Rattle.field.specs.Field.{F}
 use Rattle.series.specs.Series.{Series}
-use Rattle.series.specs.Degree.{below-cut-eq}
+use Rattle.series.specs.Shift.{cut}
+use Rattle.series.specs.Degree.{below, below-cut-eq}
 use Rattle.key_equation.specs.Run as Run
 use Rattle.key_equation.specs.Agreement.{fits}
 use Rattle.solver.specs.declared.plain.Plain.{Plain as PlainSolver}
 use Rattle.solver.specs.declared.lookahead.Lookahead.{Lookahead as LookaheadSolver}
 use Rattle.solver.specs.declared.scaled.Scaled.{Scaled as ScaledSolver}
 use Rattle.solver.specs.PlainView.{plain, clip-plain}
-use Rattle.solver.specs.LookaheadView.{lookahead, clip-lookahead}
-use Rattle.solver.specs.ScaledView.{scaled, clip-scaled}
+use Rattle.solver.specs.LookaheadView.{lookahead, lookahead-with, clip-lookahead}
+use Rattle.solver.specs.ScaledView.{scaled, scaled-with, clip-scaled}
 unfoldable pub use Rattle.solver.specs.SwapIterations.{iterated}
 use Rattle.solver.specs.declared.Form.{Form}
 use Rattle.solver.specs.declared.Form.the-variants.{Plain, Lookahead, Scaled}
@@ -71,6 +72,9 @@ any-start Scaled p l c start-p start-l start-c = start-c
 pub own-start : (f : Form) (s : Solver) → Is f 0 s (form-of f .start) → Is (s .form) 0 s (form-of (s .form) .start)
 own-start f s h = subst (λ (g : Form). Is g 0 s (form-of g .start)) (sym (h .0)) h
 
+all : {f : Series} → below 49 f → cut 49 f ≡ f
+all {f} = below-cut-eq 49 f
+
 -- nothing is lost where there are at most 48 syndromes
 pub clip-run : (f : Form) (rounds : List (List F)) → length (Run.joined rounds) ≤ 48 → (k : ℕ)
     → clip f (Run.run (form-of f) rounds k .state) ≡ Run.run (form-of f) rounds k .state
@@ -78,38 +82,12 @@ unfolding clip-plain clip-lookahead clip-scaled
 clip-run Plain rounds h k =
     let b = fits rounds h k .in-plain in
     let m = Run.run Run.plain rounds k .state in
-    λ i. record { Λ = below-cut-eq 49 _ (b .Λ) i; B = below-cut-eq 49 _ (b .B) i; γ = m .γ; k = m .k }
+    λ i. record { Λ = all (b .Λ) i; B = all (b .B) i; γ = m .γ; k = m .k }
 clip-run Lookahead rounds h k =
     let b = fits rounds h k .in-lookahead in
     let m = Run.run Run.lookahead rounds k .state in
-    λ i. record {
-      Λ = below-cut-eq 49 _ (b .Λ) i;
-      B = below-cut-eq 49 _ (b .B) i;
-      γ = m .γ;
-      k = m .k;
-      Δ = below-cut-eq 49 _ (b .Δ) i;
-      Θ = below-cut-eq 49 _ (b .Θ) i;
-      γS = m .γS;
-      δS = m .δS;
-      θS = m .θS;
-      g1 = m .g1;
-      g2 = m .g2;
-      h1 = m .h1;
-      h2 = m .h2;
-    }
+    λ i. lookahead-with m (all (b .Λ) i) (all (b .B) i) (all (b .Δ) i) (all (b .Θ) i)
 clip-run Scaled rounds h k =
     let b = fits rounds h k .in-scaled in
     let m = Run.run Run.scaled rounds k .state in
-    λ i. record {
-      Λ = below-cut-eq 49 _ (b .Λ) i;
-      B = below-cut-eq 49 _ (b .B) i;
-      γ′ = m .γ′;
-      k = m .k;
-      Δ = below-cut-eq 49 _ (b .Δ) i;
-      Θ = below-cut-eq 49 _ (b .Θ) i;
-      g = m .g;
-      ρ = m .ρ;
-      ξ = m .ξ;
-      ρS = m .ρS;
-      ξS = m .ξS;
-    }
+    λ i. scaled-with m (all (b .Λ) i) (all (b .B) i) (all (b .Δ) i) (all (b .Θ) i)

@@ -1,5 +1,6 @@
-// A solver that is kept from round to round: one more round, and its locator at the end of one. What the promises speak of stands in
-// specs/ContinuationDefinition.antt. Its length is Solver::length; that this is the shortest stands in specs/ContinuationEnd.antt.
+// A solver that is kept from round to round: one more round, and its locator at the end of one. What the promises speak
+// of stands in specs/ContinuationDefinition.antt. Its length is Solver::length; that this is the shortest stands in
+// specs/ContinuationEnd.antt.
 ghost use Prim.Native.Nat.{ℕ};
 ghost use mathlib.Core.Path.{_≡_};
 ghost use mathlib.Core.List.{List};
@@ -24,9 +25,11 @@ pub fn advance(s: Solver, from: u8, to: u8, row: [Gf; SYNDROMES]) -> Solver
     entered.run(from, to, row)
 }
 
-// Λ in the form that the solver has: at the end of rounds that are the first n syndromes of S, a multiple of the measure's.
+// Λ in the form that the solver has: at the end of rounds that are the first n syndromes of S, a multiple of the
+// measure's.
 pub fn locator(s: Solver) -> [Gf; COEFFICIENTS]
-    ensures { λ l. ⌜ ((f : Form) (rounds : List (List F)) (n : ℕ) (S : Series) → Ended f rounds s → joined rounds ≡ word n S
+    ensures { λ l. ⌜ ((f : Form) (rounds : List (List F)) (n : ℕ) (S : Series) → Ended f rounds s
+        → joined rounds ≡ word n S
         → Multiple (poly l) (measure S n .Λ)) ⌝ }
 {
     let form = s.form;

@@ -15,15 +15,16 @@ use crate::lookahead::Lookahead;
 use crate::plain::Plain;
 use crate::scaled::Scaled;
 use field::Gf;
+use polynomial::SYNDROMES;
 
-// FORMAT 8: plain, ahead and scaled.
+// The three forms of the solver: plain, ahead and scaled in FORMAT 8.
 pub enum Form {
     Plain,
     Lookahead,
     Scaled,
 }
 
-// The named form's state goes on; the two others stay as they were.
+// A solver in each form at once: the named form's state goes on, and the two others stay as they were.
 pub struct Solver {
     pub form: Form,
     pub plain: Plain,
@@ -32,6 +33,7 @@ pub struct Solver {
 }
 
 impl Solver {
+    // A solver in the named form, before its first round.
     pub fn start(named: Form) -> Solver
         ensures { λ p. ⌜ Is named 0 p (form-of named .start) ⌝ }
     {
@@ -46,68 +48,64 @@ impl Solver {
         }
     }
 
+    // The solver with its plain form in another state.
+    fn with_plain(mut self, p: Plain) -> Solver
+        ensures { λ q. ⌜ (q .form ≡ self .form) × (q .plain ≡ p) ⌝ }
+    {
+        self.plain = p;
+        self
+    }
+
+    // The solver with its lookahead form in another state.
+    fn with_lookahead(mut self, p: Lookahead) -> Solver
+        ensures { λ q. ⌜ (q .form ≡ self .form) × (q .lookahead ≡ p) ⌝ }
+    {
+        self.lookahead = p;
+        self
+    }
+
+    // The solver with its scaled form in another state.
+    fn with_scaled(mut self, p: Scaled) -> Solver
+        ensures { λ q. ⌜ (q .form ≡ self .form) × (q .scaled ≡ p) ⌝ }
+    {
+        self.scaled = p;
+        self
+    }
+
     // Enters a round at u; s is the run's syndromes so far, zeros past the round.
-    pub fn enter(self, u: u8, s: [Gf; 48]) -> Solver
-        ensures { λ p. ⌜ ((f : Form) (m : form-of f .State) → Is f u self m → Is f u p (form-of f .enter u (row s) m)) ⌝ }
+    pub fn enter(self, u: u8, s: [Gf; SYNDROMES]) -> Solver
+        ensures { λ p. ⌜ ((f : Form) (m : form-of f .State) → Is f u self m
+            → Is f u p (form-of f .enter u (row s) m)) ⌝ }
+    {
+        let form = self.form;
+        let l = self.lookahead;
+        let c = self.scaled;
+        match form {
+            Form::Plain => self,
+            Form::Lookahead => self.with_lookahead(l.enter(u, s)),
+            Form::Scaled => self.with_scaled(c.enter(u, s)),
+        }
+    }
+
+    // Takes the solver through iteration r.
+    pub fn iterate(self, r: u8, s: [Gf; SYNDROMES]) -> Solver
+        ensures { λ p. ⌜ ((f : Form) (m : form-of f .State) → Is f r self m
+            → Is f (r + 1) p (clip f (form-of f .iterate r (row s) m))) ⌝ }
     {
         let form = self.form;
         let p = self.plain;
         let l = self.lookahead;
         let c = self.scaled;
         match form {
-            Form::Plain => Solver {
-                form: form,
-                plain: p,
-                lookahead: l,
-                scaled: c,
-            },
-            Form::Lookahead => Solver {
-                form: form,
-                plain: p,
-                lookahead: l.enter(u, s),
-                scaled: c,
-            },
-            Form::Scaled => Solver {
-                form: form,
-                plain: p,
-                lookahead: l,
-                scaled: c.enter(u, s),
-            },
+            Form::Plain => self.with_plain(p.iterate(r, s)),
+            Form::Lookahead => self.with_lookahead(l.iterate(r, s)),
+            Form::Scaled => self.with_scaled(c.iterate(r, s)),
         }
     }
 
-    // Iteration r.
-    pub fn iterate(self, r: u8, s: [Gf; 48]) -> Solver
-        ensures { λ p. ⌜ ((f : Form) (m : form-of f .State) → Is f r self m → Is f (r + 1) p (clip f (form-of f .iterate r (row s) m))) ⌝ }
-    {
-        let form = self.form;
-        let p = self.plain;
-        let l = self.lookahead;
-        let c = self.scaled;
-        match form {
-            Form::Plain => Solver {
-                form: form,
-                plain: p.iterate(r, s),
-                lookahead: l,
-                scaled: c,
-            },
-            Form::Lookahead => Solver {
-                form: form,
-                plain: p,
-                lookahead: l.iterate(r, s),
-                scaled: c,
-            },
-            Form::Scaled => Solver {
-                form: form,
-                plain: p,
-                lookahead: l,
-                scaled: c.iterate(r, s),
-            },
-        }
-    }
-
-    // Iterations `from` to `to` - 1, with one look at the form. There is none if `to` is not above `from`.
-    pub fn run(self, from: u8, to: u8, s: [Gf; 48]) -> Solver
+    // Takes the solver through iterations `from` to `to` - 1, with one look at the form; there are none if `to` is not
+    // above `from`.
+    pub fn run(self, from: u8, to: u8, s: [Gf; SYNDROMES]) -> Solver
         ensures { λ p. ⌜ ((f : Form) (m : form-of f .State) → Is f from self m
             → Is f (from + (to - from)) p (iterated (iterate-clipped f (row s)) from (to - from) m)) ⌝ }
     {
@@ -116,29 +114,14 @@ impl Solver {
         let l = self.lookahead;
         let c = self.scaled;
         match form {
-            Form::Plain => Solver {
-                form: form,
-                plain: p.run(from, to, s),
-                lookahead: l,
-                scaled: c,
-            },
-            Form::Lookahead => Solver {
-                form: form,
-                plain: p,
-                lookahead: l.run(from, to, s),
-                scaled: c,
-            },
-            Form::Scaled => Solver {
-                form: form,
-                plain: p,
-                lookahead: l,
-                scaled: c.run(from, to, s),
-            },
+            Form::Plain => self.with_plain(p.run(from, to, s)),
+            Form::Lookahead => self.with_lookahead(l.run(from, to, s)),
+            Form::Scaled => self.with_scaled(c.run(from, to, s)),
         }
     }
 
     // Whether iteration r is a swap.
-    pub fn swaps(self, r: u8, s: [Gf; 48]) -> bool
+    pub fn swaps(self, r: u8, s: [Gf; SYNDROMES]) -> bool
         ensures { λ b. ⌜ ((f : Form) (m : form-of f .State) → Is f r self m → b ≡ form-of f .swapping r (row s) m) ⌝ }
     {
         let form = self.form;
@@ -173,7 +156,7 @@ impl Solver {
         }
     }
 
-    // k after r iterations.
+    // The number k after r iterations.
     pub fn k(self, r: u8) -> i32
         ensures { λ k. ⌜ ((f : Form) (m : form-of f .State) → Is f r self m → k ≡ k-in f m) ⌝ }
     {

@@ -8,25 +8,29 @@ ghost use Rattle.series.specs.Series.{K, _⊞_, _⊠_};
 ghost use Rattle.series.specs.Shift.{cut};
 ghost use Rattle.polynomial.specs.Polynomial.{poly, row};
 ghost use Rattle.key_equation.specs.Length.{k-of};
-ghost use Rattle.key_equation.specs.Lookahead.{start as Start, enter as Enter, swap as Swap, hold as Hold, iterate as Iterate};
+ghost use Rattle.key_equation.specs.Lookahead.{start as Start, enter as Enter, swap as Swap, hold as Hold};
+ghost use Rattle.key_equation.specs.Lookahead.{iterate as Iterate};
 ghost use Rattle.key_equation.specs.Lookahead.{swapping, next-Λ, next-Δ, next-δS};
 ghost use Rattle.solver.specs.SwapIterations.{iterated};
 ghost use Rattle.solver.specs.LookaheadView.{lookahead, clip-lookahead, iterate-lookahead};
 ghost use Rattle.solver.specs.LookaheadStep.{stepped};
 use field::Gf;
+use polynomial::COEFFICIENTS;
+use polynomial::SYNDROMES;
 use polynomial::product;
 use polynomial::syndromes::coefficient;
 
-// Λ, B, γ, the length L and the sums Δ and Θ; then what is held for iteration r, S being the syndromes so far and δ, θ the constant terms
-// of Δ and Θ: gamma_s is γ S_(r+1), delta_s is δ S_(r+1), theta_s is θ S_(r+2), g1 is S_(r+1) S_(r+3), g2 is S_(r+2) S_(r+3), h1 is γ S_(r+2),
-// h2 is γ S_(r+1) S_(r+2). After r iterations k is r - 2L.
+// The state of the lookahead form: Λ, B, γ, the length L and the sums Δ and Θ; then what is held for iteration r, S
+// being the syndromes so far and δ, θ the constant terms of Δ and Θ: gamma_s is γ S_(r+1), delta_s is δ S_(r+1),
+// theta_s is θ S_(r+2), g1 is S_(r+1) S_(r+3), g2 is S_(r+2) S_(r+3), h1 is γ S_(r+2), h2 is γ S_(r+1) S_(r+2). After r
+// iterations k is r - 2L.
 pub struct Lookahead {
-    pub locator: [Gf; 49],
-    pub auxiliary: [Gf; 49],
+    pub locator: [Gf; COEFFICIENTS],
+    pub auxiliary: [Gf; COEFFICIENTS],
     pub gamma: Gf,
     pub length: u16,
-    pub delta: [Gf; 49],
-    pub theta: [Gf; 49],
+    pub delta: [Gf; COEFFICIENTS],
+    pub theta: [Gf; COEFFICIENTS],
     pub gamma_s: Gf,
     pub delta_s: Gf,
     pub theta_s: Gf,
@@ -36,7 +40,7 @@ pub struct Lookahead {
     pub h2: Gf,
 }
 
-// a b + c d
+// The sum of products a b + c d.
 fn two_products(a: Gf, b: Gf, c: Gf, d: Gf) -> Gf
     ensures { λ r. ⌜ val r ≡ val a ⊙ val b ⊕ val c ⊙ val d ⌝ }
 {
@@ -45,8 +49,8 @@ fn two_products(a: Gf, b: Gf, c: Gf, d: Gf) -> Gf
     p.sum(q)
 }
 
-// f + a g
-fn add_multiple(f: [Gf; 49], a: Gf, g: [Gf; 49]) -> [Gf; 49]
+// The polynomial f + a g.
+fn add_multiple(f: [Gf; COEFFICIENTS], a: Gf, g: [Gf; COEFFICIENTS]) -> [Gf; COEFFICIENTS]
     ensures { λ r. ⌜ poly r ≡ poly f ⊞ K (val a) ⊠ poly g ⌝ }
 {
     let h = polynomial::scale(a, g);
@@ -54,6 +58,7 @@ fn add_multiple(f: [Gf; 49], a: Gf, g: [Gf; 49]) -> [Gf; 49]
 }
 
 impl Lookahead {
+    // The state before the first round.
     pub fn start() -> Lookahead
         ensures { λ p. ⌜ lookahead 0 p ≡ Start ⌝ }
     {
@@ -76,8 +81,8 @@ impl Lookahead {
         }
     }
 
-    // Enters a round at u.
-    pub fn enter(self, u: u8, s: [Gf; 48]) -> Lookahead
+    // Takes the state into a round that begins at u.
+    pub fn enter(self, u: u8, s: [Gf; SYNDROMES]) -> Lookahead
         ensures { λ p. ⌜ lookahead u p ≡ Enter u (row s) (lookahead u self) ⌝ }
     {
         let at = u as usize;
@@ -108,8 +113,8 @@ impl Lookahead {
         }
     }
 
-    // Lines 1 to 3. They do not look at k.
-    fn next_locator(self) -> [Gf; 49]
+    // The next Λ. Lines 1 to 3, which make it and the next Δ and δ_S, do not look at k.
+    fn next_locator(self) -> [Gf; COEFFICIENTS]
         ensures { λ f. ⌜ poly f ≡ cut 49 (next-Λ (lookahead 0 self)) ⌝ }
     {
         let f = self.locator;
@@ -119,7 +124,8 @@ impl Lookahead {
         polynomial::combine(self.gamma, f, delta[0], zb)
     }
 
-    fn next_delta(self) -> [Gf; 49]
+    // The next Δ.
+    fn next_delta(self) -> [Gf; COEFFICIENTS]
         ensures { λ f. ⌜ poly f ≡ cut 49 (next-Δ (lookahead 0 self)) ⌝ }
     {
         let f = self.locator;
@@ -133,6 +139,7 @@ impl Lookahead {
         polynomial::sum(left, right)
     }
 
+    // The next δ_S.
     fn next_delta_s(self) -> Gf
         ensures { λ d. ⌜ val d ≡ next-δS (lookahead 0 self) ⌝ }
     {
@@ -147,15 +154,16 @@ impl Lookahead {
     fn step(
         self,
         r: u8,
-        s: [Gf; 48],
-        auxiliary: [Gf; 49],
+        s: [Gf; SYNDROMES],
+        auxiliary: [Gf; COEFFICIENTS],
         gamma: Gf,
         length: u16,
-        theta: [Gf; 49],
+        theta: [Gf; COEFFICIENTS],
         theta_s: Gf,
     ) -> Lookahead
         ensures { λ p. ⌜ lookahead (r + 1) p ≡
-            stepped r (row s) (lookahead r self) (poly auxiliary) (val gamma) (k-of (r + 1) length) (poly theta) (val «theta_s») ⌝ }
+            stepped r (row s) (lookahead r self) (poly auxiliary) (val gamma) (k-of (r + 1) length)
+            (poly theta) (val «theta_s») ⌝ }
     {
         let at = r as usize;
         let s2 = coefficient(s, at + 2);
@@ -179,7 +187,7 @@ impl Lookahead {
     }
 
     // Lines 5 to 10: B becomes Λ and γ becomes δ.
-    fn swap(self, r: u8, s: [Gf; 48]) -> Lookahead
+    fn swap(self, r: u8, s: [Gf; SYNDROMES]) -> Lookahead
         requires { ⌜ swapping r (row s) (lookahead r self) ≡ true ⌝ }
         ensures { λ p. ⌜ lookahead (r + 1) p ≡ clip-lookahead (Swap r (row s) (lookahead r self)) ⌝ }
     {
@@ -197,7 +205,7 @@ impl Lookahead {
     }
 
     // Lines 11 to 16: B becomes zB.
-    fn hold(self, r: u8, s: [Gf; 48]) -> Lookahead
+    fn hold(self, r: u8, s: [Gf; SYNDROMES]) -> Lookahead
         ensures { λ p. ⌜ lookahead (r + 1) p ≡ clip-lookahead (Hold r (row s) (lookahead r self)) ⌝ }
     {
         let at = r as usize;
@@ -211,8 +219,8 @@ impl Lookahead {
         self.step(r, s, zb, self.gamma, self.length, next, theta_s)
     }
 
-    // Iteration r. Polynomials have 49 coefficients: what would be above is lost.
-    pub fn iterate(self, r: u8, s: [Gf; 48]) -> Lookahead
+    // Takes the state through iteration r. Polynomials have 49 coefficients: what would be above is lost.
+    pub fn iterate(self, r: u8, s: [Gf; SYNDROMES]) -> Lookahead
         ensures { λ p. ⌜ lookahead (r + 1) p ≡ clip-lookahead (Iterate r (row s) (lookahead r self)) ⌝ }
     {
         let delta = self.delta;
@@ -221,9 +229,11 @@ impl Lookahead {
         }
         self.hold(r, s)
     }
-    // Iterations `from` to `to` - 1. There is none if `to` is not above `from`.
-    pub fn run(self, from: u8, to: u8, s: [Gf; 48]) -> Lookahead
-        ensures { λ p. ⌜ lookahead (from + (to - from)) p ≡ iterated (iterate-lookahead (row s)) from (to - from) (lookahead from self) ⌝ }
+
+    // Takes the state through iterations `from` to `to` - 1; there are none if `to` is not above `from`.
+    pub fn run(self, from: u8, to: u8, s: [Gf; SYNDROMES]) -> Lookahead
+        ensures { λ p. ⌜ lookahead (from + (to - from)) p ≡
+            iterated (iterate-lookahead (row s)) from (to - from) (lookahead from self) ⌝ }
     {
         let mut p = self;
         let mut r = from;

@@ -8,16 +8,19 @@ ghost use Rattle.key_equation.specs.Plain.{start as Start, δ, iterate as Itera
 ghost use Rattle.solver.specs.SwapIterations.{iterated};
 ghost use Rattle.solver.specs.PlainView.{plain, clip-plain, iterate-plain};
 use field::Gf;
+use polynomial::COEFFICIENTS;
+use polynomial::SYNDROMES;
 
-// Λ, B, γ and the length L. After r iterations k is r - 2L.
+// The state of the plain form: Λ, B, γ and the length L. After r iterations k is r - 2L.
 pub struct Plain {
-    pub locator: [Gf; 49],
-    pub auxiliary: [Gf; 49],
+    pub locator: [Gf; COEFFICIENTS],
+    pub auxiliary: [Gf; COEFFICIENTS],
     pub gamma: Gf,
     pub length: u16,
 }
 
 impl Plain {
+    // The state before the first round.
     pub fn start() -> Plain
         ensures { λ p. ⌜ plain 0 p ≡ Start ⌝ }
     {
@@ -30,16 +33,18 @@ impl Plain {
         }
     }
 
-    pub fn discrepancy(self, r: u8, s: [Gf; 48]) -> Gf
+    // The discrepancy of iteration r.
+    pub fn discrepancy(self, r: u8, s: [Gf; SYNDROMES]) -> Gf
         ensures { λ d. ⌜ val d ≡ δ r (row s) (plain r self) ⌝ }
     {
         let locator = self.locator;
         polynomial::syndromes::convolve(locator, s, r as usize)
     }
 
-    // Iteration r, with its discrepancy d.
+    // Takes the state through iteration r, d being its discrepancy.
     fn step(self, r: u8, d: Gf) -> Plain
-        ensures { λ p. ⌜ ((S : Series) → val d ≡ δ r S (plain r self) → plain (r + 1) p ≡ clip-plain (Iterate r S (plain r self))) ⌝ }
+        ensures { λ p. ⌜ ((S : Series) → val d ≡ δ r S (plain r self)
+            → plain (r + 1) p ≡ clip-plain (Iterate r S (plain r self))) ⌝ }
     {
         let f = self.locator;
         let b = self.auxiliary;
@@ -63,17 +68,19 @@ impl Plain {
         }
     }
 
-    // Iteration r. Polynomials have 49 coefficients: what would be above is lost.
-    pub fn iterate(self, r: u8, s: [Gf; 48]) -> Plain
+    // Takes the state through iteration r. Polynomials have 49 coefficients: what would be above is lost.
+    pub fn iterate(self, r: u8, s: [Gf; SYNDROMES]) -> Plain
         ensures { λ p. ⌜ plain (r + 1) p ≡ clip-plain (Iterate r (row s) (plain r self)) ⌝ }
     {
         let d = self.discrepancy(r, s);
         self.step(r, d)
     }
 
-    // Iterations `from` to `to` - 1, with the table reversed once for all of them. There is none if `to` is not above `from`.
-    pub fn run(self, from: u8, to: u8, s: [Gf; 48]) -> Plain
-        ensures { λ p. ⌜ plain (from + (to - from)) p ≡ iterated (iterate-plain (row s)) from (to - from) (plain from self) ⌝ }
+    // Takes the state through iterations `from` to `to` - 1, with the table reversed once for all of them; there are
+    // none if `to` is not above `from`.
+    pub fn run(self, from: u8, to: u8, s: [Gf; SYNDROMES]) -> Plain
+        ensures { λ p. ⌜ plain (from + (to - from)) p ≡
+            iterated (iterate-plain (row s)) from (to - from) (plain from self) ⌝ }
     {
         let table = polynomial::syndromes::reversed(s);
         let mut p = self;

@@ -11,14 +11,16 @@ ghost use Rattle.solver.specs.RoundsEvent.{Going, Arrived};
 use crate::Form;
 use crate::Solver;
 use field::Gf;
+use polynomial::SYNDROMES;
 
 // Where a run is: the solver as it was handed back last, the iterations so far, and which of them were swaps.
 pub struct Progress {
     pub solver: Solver,
     pub iterations: u8,
-    pub swapped: [bool; 48],
+    pub swapped: [bool; SYNDROMES],
 }
 
+// The lesser of two numbers.
 fn least(a: usize, b: usize) -> usize
     ensures { λ r. ⌜ r ≡ min a b ⌝ }
 {
@@ -28,12 +30,12 @@ fn least(a: usize, b: usize) -> usize
     b
 }
 
-// The first n syndromes, then zeros.
-fn first(bytes: &[u8], n: usize) -> [Gf; 48]
+// A row of the first n syndromes, then zeros.
+fn first(bytes: &[u8], n: usize) -> [Gf; SYNDROMES]
     requires { ⌜ n ≤ length (syndromes-of (now bytes)) ⌝ }
     ensures { λ s. ⌜ row s ≡ entry (take n (syndromes-of (now (bytes .entry)))) ⌝ }
 {
-    let mut s = [Gf::ZERO; 48];
+    let mut s = [Gf::ZERO; SYNDROMES];
     let mut i: usize = 0;
     while i < n {
         s[i] = Gf(bytes[i]);
@@ -45,23 +47,25 @@ fn first(bytes: &[u8], n: usize) -> [Gf; 48]
 // How many syndromes there are when the next round has been entered: a round takes what is left.
 fn reach(known: usize, entered: usize, syndromes: &[u8], lengths: &[u8]) -> usize
     requires { ⌜ (known ≤ 48) × (entered < length (now lengths)) ⌝ }
-    ensures { λ n. ⌜ n ≡ min (known + getD (now (lengths .entry)) entered 0) (length (syndromes-of (now (syndromes .entry)))) ⌝ }
+    ensures { λ n. ⌜ n ≡
+        min (known + getD (now (lengths .entry)) entered 0) (length (syndromes-of (now (syndromes .entry)))) ⌝ }
 {
-    let all = least(syndromes.len(), 48);
+    let all = least(syndromes.len(), SYNDROMES);
     least(known + lengths[entered] as usize, all)
 }
 
 // A run on its way: the syndromes so far and how many they are, and how many rounds have been entered.
 struct Walk {
     progress: Progress,
-    syndromes: [Gf; 48],
+    syndromes: [Gf; SYNDROMES],
     known: usize,
     entered: usize,
 }
 
 // Whether the run is over.
 fn over(w: Walk, lengths: &[u8]) -> bool
-    ensures { λ b. ⌜ b ≡ leb (w .known) (w .progress .iterations) && leb (length (now (lengths .entry))) (w .entered) ⌝ }
+    ensures { λ b. ⌜ b ≡ leb (w .known) (w .progress .iterations)
+        && leb (length (now (lengths .entry))) (w .entered) ⌝ }
 {
     let p = w.progress;
     if (p.iterations as usize) < w.known {
@@ -73,7 +77,8 @@ fn over(w: Walk, lengths: &[u8]) -> bool
 // The next event: an iteration while there are syndromes for one, then the next round's entry.
 fn next(w: Walk, syndromes: &[u8], lengths: &[u8]) -> Walk
     requires { ⌜ Going (length (now lengths)) w ⌝ }
-    ensures { λ q. ⌜ ((form : Form) (n : ℕ) → Arrived form (syndromes-of (now (syndromes .entry))) (now (lengths .entry)) n w
+    ensures { λ q. ⌜ ((form : Form) (n : ℕ)
+        → Arrived form (syndromes-of (now (syndromes .entry))) (now (lengths .entry)) n w
         → Arrived form (syndromes-of (now (syndromes .entry))) (now (lengths .entry)) (n + 1) q) ⌝ }
 {
     let p = w.progress;
@@ -112,8 +117,9 @@ fn next(w: Walk, syndromes: &[u8], lengths: &[u8]) -> Walk
     }
 }
 
-// The first `events` entries and iterations of the run over the rounds that are lent: `lengths` cuts the syndromes into rounds. Syndromes after
-// the 48th are not looked at, and a round takes what is left. A run that is over stays at its end.
+// The first `events` entries and iterations of the run over the rounds that are lent: `lengths` cuts the syndromes into
+// rounds. Syndromes after the 48th are not looked at, and a round takes what is left. A run that is over stays at its
+// end.
 pub fn run(form: Form, syndromes: &[u8], lengths: &[u8], events: usize) -> Progress
     ensures { λ p. ⌜ Ran form (rounds-of (now (syndromes .entry)) (now (lengths .entry))) events p ⌝ }
 {
@@ -122,9 +128,9 @@ pub fn run(form: Form, syndromes: &[u8], lengths: &[u8], events: usize) -> Progr
         progress: Progress {
             solver: solver,
             iterations: 0,
-            swapped: [false; 48],
+            swapped: [false; SYNDROMES],
         },
-        syndromes: [Gf::ZERO; 48],
+        syndromes: [Gf::ZERO; SYNDROMES],
         known: 0,
         entered: 0,
     };

@@ -8,22 +8,25 @@ ghost use Rattle.series.specs.Series.{_⊞_, _⊠_, K, Z};
 ghost use Rattle.series.specs.Shift.{cut};
 ghost use Rattle.polynomial.specs.Polynomial.{poly, row};
 ghost use Rattle.key_equation.specs.Length.{k-of};
-ghost use Rattle.key_equation.specs.Scaled.{unless, ratio as Ratio, holding as Holding, start as Start, enter as Enter, iterate as Iterate};
+ghost use Rattle.key_equation.specs.Scaled.{unless, ratio as Ratio, holding as Holding, start as Start, enter as Enter};
+ghost use Rattle.key_equation.specs.Scaled.{iterate as Iterate};
 ghost use Rattle.solver.specs.SwapIterations.{iterated};
 ghost use Rattle.solver.specs.ScaledView.{scaled, clip-scaled, iterate-scaled, Products-of, stepped};
 use field::Gf;
+use polynomial::COEFFICIENTS;
+use polynomial::SYNDROMES;
 use polynomial::product;
 use polynomial::syndromes::coefficient;
 
-// Λ, B, γ', the length L, Δ and Θ. After r iterations k is r - 2L, and the five scalars of FORMAT 8.10 are held for
-// iteration r.
+// The state of the scaled form: Λ, B, γ', the length L, Δ and Θ. After r iterations k is r - 2L, and the five scalars of
+// FORMAT 8.10 are held for iteration r.
 pub struct Scaled {
-    pub locator: [Gf; 49],
-    pub auxiliary: [Gf; 49],
+    pub locator: [Gf; COEFFICIENTS],
+    pub auxiliary: [Gf; COEFFICIENTS],
     pub gamma: Gf,
     pub length: u16,
-    pub delta: [Gf; 49],
-    pub theta: [Gf; 49],
+    pub delta: [Gf; COEFFICIENTS],
+    pub theta: [Gf; COEFFICIENTS],
     pub ratio: Gf,
     pub rho: Gf,
     pub xi: Gf,
@@ -33,13 +36,13 @@ pub struct Scaled {
 
 // The products of an iteration: ρ_S Λ, ξ_S zB, ρ Δ/z and ξ Θ.
 struct Products {
-    locator: [Gf; 49],
-    auxiliary: [Gf; 49],
-    delta: [Gf; 49],
-    theta: [Gf; 49],
+    locator: [Gf; COEFFICIENTS],
+    auxiliary: [Gf; COEFFICIENTS],
+    delta: [Gf; COEFFICIENTS],
+    theta: [Gf; COEFFICIENTS],
 }
 
-// x, or 1 where d is 0.
+// The symbol x, or 1 where d is 0.
 fn one_if_zero(d: Gf, x: Gf) -> Gf
     ensures { λ r. ⌜ val r ≡ cond (isZero (val d)) 𝟏 (val x) ⌝ }
 {
@@ -49,8 +52,8 @@ fn one_if_zero(d: Gf, x: Gf) -> Gf
     x
 }
 
-// t + f, or t where x is 0.
-fn sum_unless(x: Gf, t: [Gf; 49], f: [Gf; 49]) -> [Gf; 49]
+// The polynomial t + f, or t where x is 0.
+fn sum_unless(x: Gf, t: [Gf; COEFFICIENTS], f: [Gf; COEFFICIENTS]) -> [Gf; COEFFICIENTS]
     ensures { λ r. ⌜ poly r ≡ poly t ⊞ unless (val x) (poly f) ⌝ }
 {
     if x.is_zero() {
@@ -59,16 +62,16 @@ fn sum_unless(x: Gf, t: [Gf; 49], f: [Gf; 49]) -> [Gf; 49]
     polynomial::sum(t, f)
 }
 
-// a zf. The top coefficient of f is lost.
-fn scale_shifted(a: Gf, f: [Gf; 49]) -> [Gf; 49]
+// The polynomial a zf, where the top coefficient of f is lost.
+fn scale_shifted(a: Gf, f: [Gf; COEFFICIENTS]) -> [Gf; COEFFICIENTS]
     ensures { λ r. ⌜ poly r ≡ cut 49 (K (val a) ⊠ (Z ⊠ poly f)) ⌝ }
 {
     let zf = polynomial::shift::times_z(f);
     polynomial::scale(a, zf)
 }
 
-// g for iteration r.
-fn ratio(r: u16, s: [Gf; 48]) -> Gf
+// The ratio g for iteration r.
+fn ratio(r: u16, s: [Gf; SYNDROMES]) -> Gf
     ensures { λ g. ⌜ val g ≡ Ratio r (row s) ⌝ }
 {
     let x = coefficient(s, r as usize);
@@ -78,18 +81,19 @@ fn ratio(r: u16, s: [Gf; 48]) -> Gf
     product(above, below.inverse())
 }
 
-// The state with these, and the scalars for iteration r.
+// The state with these polynomials, γ' and length, and the scalars for iteration r.
 fn holding(
     r: u16,
-    s: [Gf; 48],
-    locator: [Gf; 49],
-    auxiliary: [Gf; 49],
+    s: [Gf; SYNDROMES],
+    locator: [Gf; COEFFICIENTS],
+    auxiliary: [Gf; COEFFICIENTS],
     gamma: Gf,
     length: u16,
-    delta: [Gf; 49],
-    theta: [Gf; 49],
+    delta: [Gf; COEFFICIENTS],
+    theta: [Gf; COEFFICIENTS],
 ) -> Scaled
-    ensures { λ p. ⌜ scaled r p ≡ Holding r (row s) (poly locator) (poly auxiliary) (val gamma) (k-of r length) (poly delta) (poly theta) ⌝ }
+    ensures { λ p. ⌜ scaled r p ≡
+        Holding r (row s) (poly locator) (poly auxiliary) (val gamma) (k-of r length) (poly delta) (poly theta) ⌝ }
 {
     let d = delta[0];
     let g = ratio(r, s);
@@ -111,17 +115,19 @@ fn holding(
     }
 }
 
-// The state for iteration r, from the products of the one before: B becomes b, and Θ becomes t with b added unless S_r = 0.
+// The state for iteration r, from the products of the one before: B becomes b, and Θ becomes t with b added unless S_r
+// = 0.
 fn step(
     r: u16,
-    s: [Gf; 48],
+    s: [Gf; SYNDROMES],
     p: Products,
-    b: [Gf; 49],
-    t: [Gf; 49],
+    b: [Gf; COEFFICIENTS],
+    t: [Gf; COEFFICIENTS],
     gamma: Gf,
     length: u16,
 ) -> Scaled
-    ensures { λ q. ⌜ scaled r q ≡ stepped r (row s) (poly (p .locator)) (poly (p .auxiliary)) (poly (p .delta)) (poly (p .theta))
+    ensures { λ q. ⌜ scaled r q ≡
+        stepped r (row s) (poly (p .locator)) (poly (p .auxiliary)) (poly (p .delta)) (poly (p .theta))
         (poly b) (poly t) (val gamma) (k-of r length) ⌝ }
 {
     let f = p.locator;
@@ -137,6 +143,7 @@ fn step(
 }
 
 impl Scaled {
+    // The state before the first round.
     pub fn start() -> Scaled
         ensures { λ p. ⌜ scaled 0 p ≡ Start ⌝ }
     {
@@ -157,8 +164,8 @@ impl Scaled {
         }
     }
 
-    // Enters a round at u. Δ and Θ take Λ and B as they were.
-    pub fn enter(self, u: u8, s: [Gf; 48]) -> Scaled
+    // Takes the state into a round that begins at u. Δ and Θ take Λ and B as they were.
+    pub fn enter(self, u: u8, s: [Gf; SYNDROMES]) -> Scaled
         ensures { λ p. ⌜ scaled u p ≡ Enter u (row s) (scaled u self) ⌝ }
     {
         let f = self.locator;
@@ -185,8 +192,10 @@ impl Scaled {
         )
     }
 
+    // The four products of the next iteration.
     fn products(self) -> Products
-        ensures { λ p. ⌜ ((r : ℕ) → Products-of (scaled r self) (poly (p .locator)) (poly (p .auxiliary)) (poly (p .delta)) (poly (p .theta))) ⌝ }
+        ensures { λ p. ⌜ ((r : ℕ) → Products-of (scaled r self) (poly (p .locator)) (poly (p .auxiliary))
+            (poly (p .delta)) (poly (p .theta))) ⌝ }
     {
         let f = self.locator;
         let b = self.auxiliary;
@@ -200,8 +209,8 @@ impl Scaled {
         }
     }
 
-    // Iteration r. Polynomials have 49 coefficients: what would be above is lost.
-    pub fn iterate(self, r: u8, s: [Gf; 48]) -> Scaled
+    // Takes the state through iteration r. Polynomials have 49 coefficients: what would be above is lost.
+    pub fn iterate(self, r: u8, s: [Gf; SYNDROMES]) -> Scaled
         ensures { λ p. ⌜ scaled (r + 1) p ≡ clip-scaled (Iterate r (row s) (scaled r self)) ⌝ }
     {
         let b = self.auxiliary;
@@ -227,9 +236,11 @@ impl Scaled {
         let gamma = product(self.xi, self.gamma);
         step(n, s, p, zb, t, gamma, l)
     }
-    // Iterations `from` to `to` - 1. There is none if `to` is not above `from`.
-    pub fn run(self, from: u8, to: u8, s: [Gf; 48]) -> Scaled
-        ensures { λ p. ⌜ scaled (from + (to - from)) p ≡ iterated (iterate-scaled (row s)) from (to - from) (scaled from self) ⌝ }
+
+    // Takes the state through iterations `from` to `to` - 1; there are none if `to` is not above `from`.
+    pub fn run(self, from: u8, to: u8, s: [Gf; SYNDROMES]) -> Scaled
+        ensures { λ p. ⌜ scaled (from + (to - from)) p ≡
+            iterated (iterate-scaled (row s)) from (to - from) (scaled from self) ⌝ }
     {
         let mut p = self;
         let mut r = from;

@@ -25,6 +25,7 @@ pub fn next_length(length: u16, r: u8) -> u16
     r as u16 + 1 - length
 }
 
+// The difference a - b.
 fn minus(a: u32, b: u32) -> i32
     requires { ⌜ a + b < 2 ^ 31 ⌝ }
     ensures { λ d. ⌜ d ≡ subℕ a b ⌝ }
@@ -32,7 +33,7 @@ fn minus(a: u32, b: u32) -> i32
     a as i32 - b as i32
 }
 
-// k after r iterations: r - 2·length.
+// The number k after r iterations: r - 2·length.
 pub fn k(length: u16, r: u8) -> i32
     ensures { λ k. ⌜ k ≡ k-of r length ⌝ }
 {

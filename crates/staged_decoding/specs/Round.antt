@@ -3,9 +3,8 @@
 --   Meets p g j S   the values S solve the equations of FORMAT 6.6 for S_j of the unsettled subwords
 --
 -- Proved: what stands in a window and around it (window-in, window-low, window-high), and one place more (window-none, window-more); only the rows of
--- unsettled subwords go on (extend-open, extend-settled, extend-past), syndrome after syndrome (extend-none, extend-more), and no syndrome below
--- changes (extend-low). For a valid profile the new syndromes solve that system (system-solves), nothing else does (system-unique), and each goes to
--- its own subword (fresh-nth).
+-- unsettled subwords go on (extend-open, extend-settled, extend-past), and no syndrome below changes (extend-low). For a valid profile the new
+-- syndromes solve that system (system-solves), and nothing else does (system-unique).
 use Prim.Native.Nat.{ℕ, _+_, _*_, _≤_, _<_}
 use mathlib.Core.Path.{_≡_, refl, sym, ap, _∙_, fun-ext}
 use mathlib.Core.Logic.{by-cases}
@@ -24,8 +23,8 @@ use Rattle.profile.specs.Valid.{Valid}
 use Rattle.code.specs.Word.{syndrome}
 use Rattle.code.specs.Definition.{nested}
 use Rattle.staged_decoding.specs.Definition.{nth, put, Line, Progress, open?, unsettled, node, system, fresh, window, extend}
-use Rattle.staged_decoding.specs.Count.{nth-lt, nth-rising, rank-nth}
-use Rattle.staged_decoding.specs.Stage.{put-same, put-other, progress-equal}
+use Rattle.staged_decoding.specs.Count.{nth-lt, nth-rising}
+use Rattle.staged_decoding.specs.Stage.{put-same, put-other}
 
 -- ---- windows
 
@@ -84,18 +83,6 @@ module _ (p : Profile) (a b : ℕ) (g : Progress) (i : ℕ) where
   pub extend-low : (j : ℕ) → j < a → extend p a b g .row i j ≡ g .row i j
   extend-low j l = extend-row (λ s. s j ≡ g .row i j) refl (window-low a b (fresh p g i) (g .row i) j l)
 
--- a loop over j begins here, and goes on
-pub extend-none : (p : Profile) (a : ℕ) (g : Progress) → extend p a a g ≡ g
-unfolding extend
-extend-none p a g = progress-equal refl refl (fun-ext (λ i. extend-row p a a g i (λ s. s ≡ g .row i) refl (window-none a _ _)))
-
-pub extend-more : (p : Profile) (a b : ℕ) (g : Progress) (i : ℕ) → i < p .subwords → g .line i ≡ none → a ≤ b
-    → extend p a (b + 1) g .row i ≡ put b (fresh p g i b) (extend p a b g .row i)
-extend-more p a b g i h e l =
-    extend-open p a (b + 1) g i h e
-    ∙ window-more a b (fresh p g i) (g .row i) l
-    ∙ ap (put b (fresh p g i b)) (sym (extend-open p a b g i h e))
-
 -- ---- the system
 
 -- FORMAT 6.6: the b equations, for l from 0 to b − 1
@@ -129,7 +116,3 @@ module _ (p : Profile) (ok : Valid p) (g : Progress) where
   system-unique j S m w h =
       solution-unique (unsettled p g) (node p g) _ _ S nodes-distinct (solution-solves (unsettled p g) (node p g) _ nodes-distinct)
       (λ l k. powers S l ∙ m l k) w h
-
-  pub fresh-nth : (w j : ℕ) → w < unsettled p g → fresh p g (nth (p .subwords) (open? g) w) j ≡ system p g j w
-  unfolding fresh unsettled
-  fresh-nth w j h = ap (system p g j) (rank-nth (p .subwords) (open? g) w h)

@@ -4,11 +4,11 @@
 --   line-after r n o w   the line of a subword after stage r, o being its line before and w the pattern found
 --
 -- Proved: the count and stage of a line (line-of-is); a pattern added to a subword changes no other (add-same, add-other) and nothing past the block
--- (add-past), and that is all there is to it (add-is); what is found explains the row of an unsettled subword (found-some), and a settled one stays
+-- (add-past); what is found explains the row of an unsettled subword (found-some), and a settled one stays
 -- (found-settled); a step is to do nothing or to take the pattern (step-none, step-some); a stage is that for every subword (stage-line,
 -- stage-subword, stage-stays), and leaves the rows (stage-row) and all that is no subword's (stage-past, stage-line-past).
 use Prim.Native.Nat.{ℕ, zero, suc, _+_, _-_, _*_, _≤_, _<_}
-use mathlib.Core.Path.{_≡_, refl, sym, ap, ap₂, _∙_, fun-ext}
+use mathlib.Core.Path.{_≡_, refl, sym, ap, ap₂, _∙_}
 use mathlib.Core.Logic.{_≢_, if-pos, if-neg}
 use mathlib.Core.Bool.{cond}
 use mathlib.Core.List.{List}
@@ -104,18 +104,6 @@ add-other n i e s b k q d l =
 pub add-past : (m n i : ℕ) (e s : Series) → below n e → i < m → (a : ℕ) → m * n ≤ a → add n i e s a ≡ s a
 add-past m n i e s b h a l =
     add-at n i e s a ∙ ap (λ t. s a ⊕ t) (past n i e b a (omega (arith, suc-mul i n, mul-le-mul-right n h))) ∙ ⊕-zero (s a)
-
--- a block that is as s, with e added in subword i
-pub add-is : (n i : ℕ) (e s t : Series) → below n e → ((a : ℕ) → a < i * n → t a ≡ s a) → ((q : ℕ) → q < n → t (i * n + q) ≡ s (i * n + q) ⊕ e q)
-    → ((a : ℕ) → i * n + n ≤ a → t a ≡ s a) → t ≡ add n i e s
-add-is n i e s t b before inside after = fun-ext (λ a. go a (decLt a (i * n)) (decLt a (i * n + n)) ∙ sym (add-at n i e s a))
-  where
-    go : (a : ℕ) → Dec (a < i * n) → Dec (a < i * n + n) → t a ≡ s a ⊕ (zpow (i * n) ⊠ e) a
-    go a (yes l) d = before a l ∙ sym (ap (λ x. s a ⊕ x) (zpow-low (i * n) e a l) ∙ ⊕-zero (s a))
-    go a (no l) (yes d) =
-        let f : a ≡ i * n + (a - i * n) = omega arith in
-        rw f (inside (a - i * n) (omega arith) ∙ sym (ap (λ x. s (i * n + (a - i * n)) ⊕ x) (zpow-at (i * n) e (a - i * n))))
-    go a (no l) (no d) = after a (omega arith) ∙ sym (ap (λ x. s a ⊕ x) (past n i e b a (omega arith)) ∙ ⊕-zero (s a))
 
 -- ---- what is found
 

@@ -1,4 +1,5 @@
-// Asks about profiles, writes blocks and fetches subwords, as the cases of standard input say, and prints a line for each:
+// Asks about profiles, writes blocks and fetches subwords, as the cases of standard input say, and prints a line for
+// each:
 //
 //     profile BYTES | its number, data size (0 if refused)
 //     write PROFILE | data size, output size | its number | the output, which held 170 everywhere before
@@ -6,16 +7,14 @@
 //
 // `stdout` holds the same lines from an independent model.
 //
-// Standard input is the number of cases and the cases. A case is a byte, 0 for a profile, 1 for a write and 2 for a fetch; a byte with the size of
-// the profile, and the profile; for a write the size of the data, the data and the size of the output; for a fetch the size of the block, the block
-// and the number of the subword. These numbers have two bytes, the high byte first.
-ghost use Prim.Native.Nat.{_≤_};
-ghost use mathlib.Core.Path.{_≡_};
-ghost use lib.ListN.{length};
-ghost use Rattle.io.specs.Counts.{Counts};
+// Standard input is the number of cases and the cases. A case is a byte, 0 for a profile, 1 for a write and 2 for a
+// fetch; a byte with the size of the profile, and the profile; for a write the size of the data, the data and the size
+// of the output; for a fetch the size of the block, the block and the number of the subword. These numbers have two
+// bytes, the high byte first.
 use profile::Answer;
 use profile::Parsed;
 use test_support::input;
+use test_support::output;
 use test_support::print;
 
 fn answer(a: Answer) {
@@ -35,20 +34,6 @@ fn profile_case(profile: &[u8]) {
     }
 }
 
-fn filled() -> [u8; 65536]
-    ensures { λ r. ⌜ 65536 ≡ length r ⌝ }
-{
-    [170; 65536]
-}
-
-// An output of n bytes that shows what is written to it.
-fn output(n: usize) -> [u8; 65536]
-    requires { ⌜ n ≤ 65536 ⌝ }
-    ensures { λ r. ⌜ Counts n r ⌝ }
-{
-    filled()
-}
-
 fn write(profile: &[u8], data: &[u8], out: &mut [u8]) {
     answer(encoder::encode(profile, data, out));
     print::text(b" |");
@@ -61,7 +46,7 @@ fn write_case(profile: &[u8]) {
     let size = input::number();
     print::number(n);
     print::number(size);
-    let mut out = output(size);
+    let mut out = output::bytes(size);
     write(profile, &space[..n], &mut out[..size]);
 }
 

@@ -1,5 +1,6 @@
-// Prints what the field computes, a line of numbers each: the logarithms of the bytes, the powers of α below 255, the inverses of the bytes from 1 on,
-// and for every byte its products with all bytes. The file `stdout` holds the same numbers from an independent program.
+// Prints what the field computes, a line of numbers each: the logarithms of the bytes, the powers of α below 255, the
+// inverses of the bytes from 1 on, and for every byte its products with all bytes. The file `stdout` holds the same
+// numbers from an independent program.
 use field::Exponent;
 use field::Gf;
 

@@ -1,4 +1,5 @@
-// Settles rows of syndromes by what the solver finds in each form, as the cases of standard input say, and prints a line for each:
+// Settles rows of syndromes by what the solver finds in each form, as the cases of standard input say, and prints a
+// line for each:
 //
 //     FORM | t, n | settled or failed, how many symbols change | position and change of each
 //
@@ -8,35 +9,25 @@
 ghost use Prim.Native.Nat.{_≤_, _<_};
 ghost use lib.ListN.{length};
 use field::Gf;
+use kernel::wide;
+use polynomial::SYNDROMES;
+use profile::POSITIONS;
 use settle::Settled;
 use solver::Form;
-use solver::Solver;
 use test_support::print;
+use test_support::state;
 
 // The syndromes, then zeros.
-fn row(syndromes: &[u8]) -> [Gf; 48]
+fn row(syndromes: &[u8]) -> [Gf; SYNDROMES]
     requires { ⌜ length (now syndromes) ≤ 48 ⌝ }
 {
-    let mut s = [Gf::ZERO; 48];
+    let mut s = [Gf::ZERO; SYNDROMES];
     let mut i: usize = 0;
     while i < syndromes.len() {
         s[i] = Gf(syndromes[i]);
         i = i + 1;
     }
     s
-}
-
-// The locator of the form that ran.
-fn locator(s: Solver) -> [Gf; 49] {
-    let form = s.form;
-    let p = s.plain;
-    let l = s.lookahead;
-    let c = s.scaled;
-    match form {
-        Form::Plain => p.locator,
-        Form::Lookahead => l.locator,
-        Form::Scaled => c.locator,
-    }
 }
 
 // The syndromes are one round: its entry and an iteration for each.
@@ -47,7 +38,13 @@ fn settle(form: Form, syndromes: &[u8], n: usize, t: usize) -> Settled
     let lengths = [m as u8];
     let end = solver::rounds::run(form, syndromes, &lengths, m + 1);
     let s = end.solver;
-    settle::settle(locator(s), s.length() as usize, row(syndromes), n, t)
+    settle::settle(
+        solver::continuation::locator(s),
+        s.length() as usize,
+        row(syndromes),
+        n,
+        t,
+    )
 }
 
 fn change(position: usize, y: Gf) {
@@ -58,9 +55,9 @@ fn change(position: usize, y: Gf) {
 }
 
 // The positions that change, each with its change.
-fn changes(pattern: [Gf; 255]) {
+fn changes(pattern: [Gf; POSITIONS]) {
     let mut i: usize = 0;
-    while i < 255 {
+    while i < POSITIONS {
         change(i, pattern[i]);
         i = i + 1;
     }
@@ -79,20 +76,14 @@ fn show(r: Settled) {
     print::text(b"\n");
 }
 
-fn one(name: &[u8], form: Form, syndromes: &[u8], n: usize, t: usize)
+fn one(form: Form, syndromes: &[u8], n: usize, t: usize)
     requires { ⌜ (length (now syndromes) ≤ 48) × (n ≤ 255) × (t ≤ 24) ⌝ }
 {
-    print::text(name);
+    state::name(form);
     print::text(b" |");
     print::number(t);
     print::number(n);
     show(settle(form, syndromes, n, t));
-}
-
-fn wide(x: u8) -> usize
-    ensures { λ r. ⌜ r < 256 ⌝ }
-{
-    x as usize
 }
 
 // The case at a place, in each form, and where the next one is: the end, where the case is not whole.
@@ -115,9 +106,9 @@ fn next(input: &[u8], at: usize) -> usize
         return end;
     }
     let syndromes = &input[a..b];
-    one(b"plain", Form::Plain, syndromes, n, t);
-    one(b"lookahead", Form::Lookahead, syndromes, n, t);
-    one(b"scaled", Form::Scaled, syndromes, n, t);
+    one(Form::Plain, syndromes, n, t);
+    one(Form::Lookahead, syndromes, n, t);
+    one(Form::Scaled, syndromes, n, t);
     b
 }
 

@@ -1,13 +1,9 @@
 // Standard input, piece by piece. What is missing at its end is read as 0.
 ghost use Prim.Native.Nat.{_≤_, _<_};
 ghost use Rattle.io.specs.Counts.{Counts};
+use kernel::wide;
 
-fn wide(x: u8) -> usize
-    ensures { λ r. ⌜ r < 256 ⌝ }
-{
-    x as usize
-}
-
+// The next byte.
 pub fn byte() -> usize
     ensures { λ r. ⌜ r < 256 ⌝ }
 {

@@ -9,10 +9,10 @@ ghost use Rattle.divider.specs.DivisionRemainder.{feed};
 ghost use Rattle.divider.specs.DivisionLeaves.{Leaves};
 use crate::packed::Packed;
 
-// Two of them.
+// The remainders of two words.
 pub struct Pair(pub Packed, pub Packed);
 
-// One symbol up, and the row that takes the last symbol away.
+// Moves the state one symbol up and adds the row that takes the last symbol away.
 fn step(t: &[u64], r: Packed, x: u8) -> Packed
     requires { ⌜ Multiples wide (now t) ⌝ }
     ensures { λ q. ⌜ packed q ≡ feed (lower wide (now (t .entry))) (packed r) (of x) ⌝ }
@@ -20,7 +20,7 @@ fn step(t: &[u64], r: Packed, x: u8) -> Packed
     crate::packed::shifted(r, crate::multiples::wide(t, crate::packed::index(r, x)))
 }
 
-// From the last symbol down.
+// What z^48 times the symbols from `from` on leaves, from the last symbol down.
 pub fn remainder(t: &[u64], word: &[u8], from: usize) -> Packed
     requires { ⌜ Multiples wide (now t) × (from ≤ length (now word)) ⌝ }
     ensures { λ r. ⌜ Leaves wide (now (t .entry)) from (now (word .entry)) r ⌝ }
@@ -34,7 +34,8 @@ pub fn remainder(t: &[u64], word: &[u8], from: usize) -> Packed
     r
 }
 
-// A step of each of two words in a pass. Neither step waits for the other, so the second word is nearly free; more words do not fit into the registers.
+// A step of each of two words in a pass. Neither step waits for the other, so the second word is nearly free; more
+// words do not fit into the registers.
 pub fn remainders(t: &[u64], a: &[u8], b: &[u8], from: usize) -> Pair
     requires { ⌜ Multiples wide (now t) × (from ≤ length (now a)) × (length (now b) ≡ length (now a)) ⌝ }
     ensures first { λ r. ⌜ Leaves wide (now (t .entry)) from (now (a .entry)) (r .0) ⌝ }

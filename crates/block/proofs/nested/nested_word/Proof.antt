@@ -1,7 +1,8 @@
 -- The first n symbols are lent to `nest`.
 use mathlib.Core.Path.{sym, _∙_}
 use lib.Seq.{length-take-le}
-use Rattle.block.specs.NestedHorner.{prefix-zeros, prefix-back}
+use Rattle.kernel.specs.Copy.{front-zeros}
+use Rattle.block.specs.NestedHorner.{prefix-zeros}
 use borrow.Author.Needs.{needs}
 use Rattle.block.proofs.nested.nested_word.Statement.{statement}
 use Rattle.block.proofs.nested.nested_word.Tie as tie
@@ -27,7 +28,7 @@ returns : tie.Need-returns
 returns c =
     let given = c .before .before .before .before .before in
     let n = given .args .p .length in
-    prefix-back n 255 _ _ (c .word2 .given ∙ length-take-le n _ (given .pre .0 .valid .length .1)) (c .before .nest .ensures)
+    front-zeros n 255 _ _ (c .word2 .given ∙ length-take-le n _ (given .pre .0 .valid .length .1)) (c .before .nest .ensures)
 
 pub nested-word-spec : {M : Type 1} → statement M
 nested-word-spec =

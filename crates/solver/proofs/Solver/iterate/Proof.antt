@@ -1,4 +1,8 @@
 -- The form that it has goes on.
+use mathlib.Core.Path.{ap, _∙_}
+use Rattle.solver.specs.PlainView.{plain}
+use Rattle.solver.specs.LookaheadView.{lookahead}
+use Rattle.solver.specs.ScaledView.{scaled}
 use Rattle.solver.specs.Solver.{for-form}
 use borrow.Author.Needs.{needs}
 use Rattle.solver.proofs.Solver.iterate.Statement.{statement}
@@ -10,11 +14,17 @@ enum-told c = search needs
 iterate-requires : tie.Need-iterate-requires
 iterate-requires c κs = search needs
 
+with-plain-requires : tie.Need-with-plain-requires
+with-plain-requires c κs = search needs
+
 enum-told-2 : tie.Need-enum-told-2
 enum-told-2 c = search needs
 
 iterate-requires-2 : tie.Need-iterate-requires-2
 iterate-requires-2 c κs = search needs
+
+with-lookahead-requires : tie.Need-with-lookahead-requires
+with-lookahead-requires c κs = search needs
 
 enum-told-3 : tie.Need-enum-told-3
 enum-told-3 c = search needs
@@ -22,20 +32,29 @@ enum-told-3 c = search needs
 iterate-requires-3 : tie.Need-iterate-requires-3
 iterate-requires-3 c κs = search needs
 
+with-scaled-requires : tie.Need-with-scaled-requires
+with-scaled-requires c κs = search needs
+
 returns : tie.Need-returns
 returns c =
-    let e = c .before .enum-told .given .1 in
-    for-form _ _ _ e (e, c .iterate .ensures)
+    let gone = c .before in
+    let e = gone .before .enum-told .given .1 in
+    let (form, state) = c .with-plain .ensures in
+    for-form _ _ _ e (form ∙ e, ap (plain _) state ∙ gone .iterate .ensures)
 
 returns-2 : tie.Need-returns-2
 returns-2 c =
-    let e = c .before .enum-told2 .given .1 in
-    for-form _ _ _ e (e, c .iterate2 .ensures)
+    let gone = c .before in
+    let e = gone .before .enum-told2 .given .1 in
+    let (form, state) = c .with-lookahead .ensures in
+    for-form _ _ _ e (form ∙ e, ap (lookahead _) state ∙ gone .iterate2 .ensures)
 
 returns-3 : tie.Need-returns-3
 returns-3 c =
-    let e = c .before .enum-told3 .given .1 in
-    for-form _ _ _ e (e, c .iterate3 .ensures)
+    let gone = c .before in
+    let e = gone .before .enum-told3 .given .1 in
+    let (form, state) = c .with-scaled .ensures in
+    for-form _ _ _ e (form ∙ e, ap (scaled _) state ∙ gone .iterate3 .ensures)
 
 pub iterate-spec : {M : Type 1} → statement M
 iterate-spec =
@@ -43,10 +62,13 @@ iterate-spec =
     (tie.spec
     enum-told
     iterate-requires
+    with-plain-requires
     enum-told-2
     iterate-requires-2
+    with-lookahead-requires
     enum-told-3
     iterate-requires-3
+    with-scaled-requires
     returns
     returns-2
     returns-3)

@@ -34,9 +34,9 @@ loop-less c = search needs
 
 loop-again : tie.Need-loop-again Inv-loop μ-loop
 loop-again c =
-    let iterate-clipped = c .before .before in
-    let few = length-syndromes (iterate-clipped .before .args .bytes .now) in
-    (filled-more _ (iterate-clipped .loop .inv .0) (omega (arith, few)) (val-of _ ∙ sym (read-at _ _ _ _)), omega arith)
+    let pass = c .before .before in
+    let few = length-syndromes (pass .before .args .bytes .now) in
+    (filled-more _ (pass .loop .inv .0) (omega (arith, few)) (val-of _ ∙ sym (read-at _ _ _ _)), omega arith)
 
 returns : tie.Need-returns Inv-loop μ-loop
 returns c =

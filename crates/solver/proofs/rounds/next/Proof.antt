@@ -1,4 +1,4 @@
--- The two ways that a iterate-clipped goes on.
+-- The two ways that a run goes on.
 use native.Mathlib.Nat.{min-le-right}
 use native.Mathlib.Omega.{arith}
 use Rattle.solver.specs.RoundsRun.{few}

@@ -1,4 +1,4 @@
--- Each iterate-clipped of the loop is the next event of the run.
+-- Each pass of the loop is the next event of the run.
 use Prim.Native.Nat.{_-_, _≤_}
 use mathlib.Core.Path.{sym, subst, _∙_}
 use native.Mathlib.Omega.{arith}

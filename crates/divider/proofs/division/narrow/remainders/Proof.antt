@@ -1,19 +1,17 @@
 -- q, r, u and v are the remainders of the symbols from p on.
-use Prim.Native.Nat.{_-_, _≤_}
-use mathlib.Core.Path.{_≡_, refl}
+use Prim.Native.Nat.{_-_}
+use mathlib.Core.Path.{refl}
 use native.Mathlib.Omega.{arith}
-use lib.ListN.{length}
-use Rattle.divider.specs.Packed.{six-zero}
 use Rattle.divider.specs.Multiples.{narrow}
-use Rattle.divider.specs.DivisionRemainder.{remainder-start, remainder-step}
-use Rattle.divider.specs.DivisionLeaves.{Leaves}
+use Rattle.divider.specs.DivisionLeaves.{Leaving, leaving-none, leaving-more, leaving-all}
 use borrow.Author.Needs.{needs}
 use Rattle.divider.proofs.division.narrow.remainders.Statement.{statement}
 use Rattle.divider.proofs.division.narrow.remainders.Tie as tie
 
 abbrev Inv-loop : tie.InvT-loop
 Inv-loop t a b c d from q₀ r₀ u₀ v₀ p₀ q r u v p =
-    (from ≤ p) × (p ≤ length a) × Leaves narrow t p a q × Leaves narrow t p b r × Leaves narrow t p c u × Leaves narrow t p d v
+    Leaving narrow t from a p q × Leaving narrow t from b p r
+    × Leaving narrow t from c p u × Leaving narrow t from d p v
 
 abbrev μ-loop : tie.MeasureT-loop
 μ-loop t a b c d from q₀ r₀ u₀ v₀ p₀ q r u v p = p - from
@@ -21,12 +19,10 @@ abbrev μ-loop : tie.MeasureT-loop
 loop-holds : tie.Need-loop-holds Inv-loop μ-loop
 loop-holds c =
     let given = c .before .before .before .before .before in (
-      given .pre .1,
-      search needs,
-      remainder-start _ (given .args .a .now) _ _ refl six-zero,
-      remainder-start _ (given .args .b .now) _ _ (given .pre .2) six-zero,
-      remainder-start _ (given .args .c .now) _ _ (given .pre .3) six-zero,
-      remainder-start _ (given .args .d .now) _ _ (given .pre .4) six-zero,
+      leaving-none refl (given .pre .1),
+      leaving-none (given .pre .2) (given .pre .1),
+      leaving-none (given .pre .3) (given .pre .1),
+      leaving-none (given .pre .4) (given .pre .1),
     )
 
 sub-p : tie.Need-sub-p Inv-loop μ-loop
@@ -61,21 +57,24 @@ loop-less c = search needs
 
 loop-again : tie.Need-loop-again Inv-loop μ-loop
 loop-again c =
-    let now = c .before .before .before .before .before .before .before .before .before .loop in
-    let given = c .before .before .before .before .before .before .before .before .before .before .before .before .before .before .before in (
-      omega arith,
-      omega arith,
-      remainder-step _ (given .args .a .now) (now .p) _ _ (omega arith) (now .inv .1) (now .inv .2) (c .before .before .before .before .before .before .step .ensures),
-      remainder-step _ (given .args .b .now) (now .p) _ _ (omega arith) (omega (arith, now .inv .1, given .pre .2)) (now .inv .3) (c .before .before .before .before .step2 .ensures),
-      remainder-step _ (given .args .c .now) (now .p) _ _ (omega arith) (omega (arith, now .inv .1, given .pre .3)) (now .inv .4) (c .before .before .step3 .ensures),
-      remainder-step _ (given .args .d .now) (now .p) _ _ (omega arith) (omega (arith, now .inv .1, given .pre .4)) (now .inv .5) (c .step4 .ensures),
+    let third = c .before .before in
+    let second = third .before .before in
+    let first = second .before .before in
+    let now = first .before .before .before .loop in (
+      leaving-more (now .inv .0) (omega arith) (first .step .ensures),
+      leaving-more (now .inv .1) (omega arith) (second .step2 .ensures),
+      leaving-more (now .inv .2) (omega arith) (third .step3 .ensures),
+      leaving-more (now .inv .3) (omega arith) (c .step4 .ensures),
     )
 
 returns : tie.Need-returns Inv-loop μ-loop
 returns c =
-    let end = c .before .loop in
-    let e : end .p ≡ c .before .before .before .before .before .before .before .args .from = omega arith in
-    (rw e at (end .inv .2), rw e at (end .inv .3), rw e at (end .inv .4), rw e at (end .inv .5))
+    let end = c .before .loop in (
+      leaving-all (end .inv .0) (omega arith),
+      leaving-all (end .inv .1) (omega arith),
+      leaving-all (end .inv .2) (omega arith),
+      leaving-all (end .inv .3) (omega arith),
+    )
 
 pub remainders-spec : {M : Type 1} → statement M
 remainders-spec =

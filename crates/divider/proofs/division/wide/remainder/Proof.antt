@@ -1,27 +1,21 @@
 -- r is the remainder of the symbols from p on.
-use Prim.Native.Nat.{_-_, _≤_}
-use mathlib.Core.Path.{_≡_, refl}
+use Prim.Native.Nat.{_-_}
+use mathlib.Core.Path.{refl}
 use native.Mathlib.Omega.{arith}
-use lib.ListN.{length}
-use Rattle.divider.specs.Packed.{six-zero}
-use Rattle.divider.specs.DivisionRemainder.{remainder-start, remainder-step}
 use Rattle.divider.specs.Multiples.{wide}
-use Rattle.divider.specs.DivisionLeaves.{Leaves}
+use Rattle.divider.specs.DivisionLeaves.{Leaving, leaving-none, leaving-more, leaving-all}
 use borrow.Author.Needs.{needs}
 use Rattle.divider.proofs.division.wide.remainder.Statement.{statement}
 use Rattle.divider.proofs.division.wide.remainder.Tie as tie
 
 abbrev Inv-loop : tie.InvT-loop
-Inv-loop t word from r₀ p₀ r p =
-    (from ≤ p) × (p ≤ length word) × Leaves wide t p word r
+Inv-loop t word from r₀ p₀ r p = Leaving wide t from word p r
 
 abbrev μ-loop : tie.MeasureT-loop
 μ-loop t word from r₀ p₀ r p = p - from
 
 loop-holds : tie.Need-loop-holds Inv-loop μ-loop
-loop-holds c =
-    let given = c .before .before in
-    (given .pre .1, search needs, remainder-start _ (given .args .word .now) _ _ refl six-zero)
+loop-holds c = let given = c .before .before in leaving-none refl (given .pre .1)
 
 sub-p : tie.Need-sub-p Inv-loop μ-loop
 sub-p c = search needs
@@ -38,14 +32,10 @@ loop-less c = search needs
 loop-again : tie.Need-loop-again Inv-loop μ-loop
 loop-again c =
     let now = c .before .before .before .loop in
-    let word = c .before .before .before .before .before .before .args .word .now in
-    (omega arith, omega arith, remainder-step _ word (now .p) _ _ (omega arith) (now .inv .1) (now .inv .2) (c .step .ensures))
+    leaving-more (now .inv) (omega arith) (c .step .ensures)
 
 returns : tie.Need-returns Inv-loop μ-loop
-returns c =
-    let end = c .before .loop in
-    let e : end .p ≡ c .before .before .before .before .args .from = omega arith in
-    rw e at (end .inv .2)
+returns c = let end = c .before .loop in leaving-all (end .inv) (omega arith)
 
 pub remainder-spec : {M : Type 1} → statement M
 remainder-spec =

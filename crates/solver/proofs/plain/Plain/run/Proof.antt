@@ -1,5 +1,5 @@
--- Before iteration r, r - from iterated are made.
-use Prim.Native.Nat.{_+_, _-_, _≤_}
+-- Before iteration r, r - from iterations are made.
+use Prim.Native.Nat.{_-_}
 use mathlib.Core.Path.{_≡_, sym, _∙_}
 use native.Mathlib.Omega.{arith}
 use Rattle.series.specs.Series.{Series}
@@ -8,7 +8,7 @@ use Rattle.series.specs.Array.{bytes}
 use Rattle.polynomial.specs.Polynomial.{below-row}
 use Rattle.polynomial.specs.SyndromesReversed.{reversed}
 use Rattle.key_equation.specs.Ahead.{δ-convolution}
-use Rattle.solver.specs.SwapIterations.{iterated, iterated-none, iterated-more, iterated-end}
+use Rattle.solver.specs.SwapIterations.{Iterating, iterating-none, iterating-more, iterating-all}
 use Rattle.solver.specs.PlainView.{plain, iterate-plain}
 use borrow.Author.Needs.{needs}
 use Rattle.solver.proofs.plain.Plain.run.Statement.{statement}
@@ -16,8 +16,8 @@ use Rattle.solver.proofs.plain.Plain.run.Tie as tie
 
 abbrev Inv-loop : tie.InvT-loop
 Inv-loop from to table p₀ r₀ p r =
-    (from ≤ r) × (r ≤ from + (to - from))
-    × ((S : Series) → below 48 S → bytes table ≡ reversed 95 S → plain r p ≡ iterated (iterate-plain S) from (r - from) (plain from p₀))
+    (S : Series) → below 48 S → bytes table ≡ reversed 95 S
+    → Iterating (iterate-plain S) from to (plain from p₀) r (plain r p)
 
 abbrev μ-loop : tie.MeasureT-loop
 μ-loop from to table p₀ r₀ p r = to - r
@@ -26,7 +26,7 @@ reversed-requires : tie.Need-reversed-requires Inv-loop μ-loop
 reversed-requires c κs = search needs
 
 loop-holds : tie.Need-loop-holds Inv-loop μ-loop
-loop-holds c = (omega arith, omega arith, λ S b e. iterated-none (iterate-plain S) _ _)
+loop-holds c = λ S b e. iterating-none
 
 cast-convolve-reversed : tie.Need-cast-convolve-reversed Inv-loop μ-loop
 cast-convolve-reversed c = search needs
@@ -46,17 +46,16 @@ loop-less c = search needs
 loop-again : tie.Need-loop-again Inv-loop μ-loop
 unfolding plain
 loop-again c =
-    let now = c .before .before .before .before .before .loop in (
-      omega arith,
-      omega arith,
-      λ S b e. iterated-more (iterate-plain S) _ _ (now .r) _ _ (now .inv .0) (now .inv .2 S b e)
-          (c .step .ensures S (c .before .convolve-reversed .ensures S b e ∙ sym (δ-convolution _ _ _))),
-    )
+    let found = c .before in
+    let now = found .before .before .before .before .loop in
+    λ S b e. iterating-more (now .inv S b e) (omega arith)
+    (c .step .ensures S (found .convolve-reversed .ensures S b e ∙ sym (δ-convolution _ _ _)))
 
 returns : tie.Need-returns Inv-loop μ-loop
 returns c =
     let end = c .before .loop in
-    iterated-end _ _ _ (end .r) _ (λ r. plain r (end .p)) (omega arith) (end .inv .2 _ (below-row _) (c .before .before .reversed .ensures))
+    let table = c .before .before .reversed .ensures in
+    iterating-all (λ r. plain r (end .p)) (end .inv _ (below-row _) table) (omega arith)
 
 pub run-spec : {M : Type 1} → statement M
 run-spec =

@@ -1,7 +1,5 @@
 -- Two constants one, and k = 0 - 2·0.
-use mathlib.Core.Path.{_∙_}
 use Rattle.field.specs.Field.{val-one}
-use Rattle.series.specs.Series.{K}
 use Rattle.key_equation.specs.Length.{k-of-start}
 use Rattle.solver.specs.PlainView.{plain}
 use borrow.Author.Needs.{needs}
@@ -13,9 +11,7 @@ constant-requires c κs = search needs
 
 returns : tie.Need-returns
 unfolding plain
-returns c =
-    let one = c .constant .ensures in
-    λ i. record { Λ = (one ∙ λ j. K (val-one j)) i; B = (one ∙ λ j. K (val-one j)) i; γ = val-one i; k = k-of-start i }
+returns c = cc (val-one, k-of-start)
 
 pub start-spec : {M : Type 1} → statement M
 start-spec = tie.close (tie.spec constant-requires returns)

@@ -1,14 +1,14 @@
 -- The loop ends: i rises to 48.
 use Prim.Native.Nat.{_-_}
 use borrow.Author.Needs.{needs}
-use Rattle.test_solver.proofs.print.swaps.Statement.{statement}
-use Rattle.test_solver.proofs.print.swaps.Tie as tie
+use Rattle.test_solver.proofs.swaps.swaps.Statement.{statement}
+use Rattle.test_solver.proofs.swaps.swaps.Tie as tie
 
 abbrev Inv-loop : tie.InvT-loop
-Inv-loop swapped some₀ i₀ t5 t6 some i = Unit {0}
+Inv-loop swapped some₀ i₀ t5 some i = Unit {0}
 
 abbrev μ-loop : tie.MeasureT-loop
-μ-loop swapped some₀ i₀ t5 t6 some i = 48 - i
+μ-loop swapped some₀ i₀ t5 some i = 48 - i
 
 loop-holds : tie.Need-loop-holds Inv-loop μ-loop
 loop-holds c = search needs
@@ -28,20 +28,14 @@ loop-less c = search needs
 loop-again : tie.Need-loop-again Inv-loop μ-loop
 loop-again c = search needs
 
-slice-aggregate-write-all : tie.Need-slice-aggregate-write-all Inv-loop μ-loop
-slice-aggregate-write-all c = search needs
+slice-aggregate-text : tie.Need-slice-aggregate-text Inv-loop μ-loop
+slice-aggregate-text c = search needs
 
-write-all-requires : tie.Need-write-all-requires Inv-loop μ-loop
-write-all-requires c κs = search needs
+text-requires : tie.Need-text-requires Inv-loop μ-loop
+text-requires c κs = search needs
 
 returns : tie.Need-returns Inv-loop μ-loop
 returns c = search needs
-
-slice-aggregate-write-all-2 : tie.Need-slice-aggregate-write-all-2 Inv-loop μ-loop
-slice-aggregate-write-all-2 c = search needs
-
-write-all-requires-2 : tie.Need-write-all-requires-2 Inv-loop μ-loop
-write-all-requires-2 c κs = search needs
 
 returns-2 : tie.Need-returns-2 Inv-loop μ-loop
 returns-2 c = search needs
@@ -58,9 +52,7 @@ swaps-spec =
     add-i
     loop-less
     loop-again
-    slice-aggregate-write-all
-    write-all-requires
+    slice-aggregate-text
+    text-requires
     returns
-    slice-aggregate-write-all-2
-    write-all-requires-2
     returns-2)

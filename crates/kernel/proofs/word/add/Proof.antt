@@ -10,8 +10,8 @@ use Rattle.series.specs.Degree.{below-cut-eq, below-weaken}
 use Rattle.series.specs.Array.{bytes, read-at, below-read}
 use Rattle.kernel.specs.Store.{bytes-xor, multiple-none, multiple-more}
 use borrow.Author.Needs.{needs}
-use Rattle.kernel.proofs.row.add.Statement.{statement}
-use Rattle.kernel.proofs.row.add.Tie as tie
+use Rattle.kernel.proofs.word.add.Statement.{statement}
+use Rattle.kernel.proofs.word.add.Tie as tie
 
 abbrev Inv-loop : tie.InvT-loop
 Inv-loop from to₀ q₀ to q = (q ≤ length to₀) × (length to ≡ length to₀) × (bytes to ≡ bytes to₀ ⊞ K 𝟏 ⊠ cut q (bytes from))
