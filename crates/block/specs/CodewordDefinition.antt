@@ -2,7 +2,8 @@
 --
 --   further p           how many roots the first nested word has past the 2 t0 of the subwords
 --   Further p u         u is the table for these roots, if there are nested words
---   Tables p t u        t is the table for the roots of the subwords, and u the one for the further roots of nested words
+--   Tables p t u        t is the table for the roots of the subwords, and u the one for the further roots of
+--                       nested words
 --   zeros? t            whether a table of syndromes is zero
 --   left p s l          the remainder of nested word l of the block s by the further roots
 --   Vanish p s l        the syndromes of nested word l from number 2 t0 on, as many as its code asks for, are zero

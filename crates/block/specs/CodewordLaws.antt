@@ -1,8 +1,9 @@
 -- Laws of the codeword check.
 --
--- Proved: a table of syndromes that is zero says that the subwords are in the code of t0, and a codeword has such a table (zeros-subwords, not-zeros); then the nested words' syndromes below 2 t0 are zero
--- too, and the block is a codeword exactly if those from there on are (check-passes, check-fails); a nested word's further syndromes are the values of
--- its remainder (word-syndrome).
+-- Proved: a table of syndromes that is zero says that the subwords are in the code of t0, and a codeword has such a
+-- table (zeros-subwords, not-zeros); then the nested words' syndromes below 2 t0 are zero too, and the block is a
+-- codeword exactly if those from there on are (check-passes, check-fails); a nested word's further syndromes are the
+-- values of its remainder (word-syndrome).
 use Prim.Native.Nat.{ℕ, zero, suc, _+_, _-_, _*_, _≤_, _<_}
 use mathlib.Core.Path.{_≡_, sym, ap, _∙_, subst}
 use mathlib.Core.Logic.{_≢_}
@@ -36,21 +37,25 @@ use Rattle.block.specs.CodewordDefinition.{further, zeros?, left, Vanish
 
 -- ---- the subwords
 
-pub zeros-subwords : (p : Profile) (s : Series) (t : List (List Gf)) → Valid p → table t ≡ received p s (2 * p .t0) → holds (zeros? t) ≡ true → Subwords p s
+pub zeros-subwords : (p : Profile) (s : Series) (t : List (List Gf))
+    → Valid p → table t ≡ received p s (2 * p .t0) → holds (zeros? t) ≡ true → Subwords p s
 zeros-subwords p s t ok is e i h j l =
     sym (cut-low (2 * p .t0) _ j l)
     ∙ (rw (lt-ltb i (p .subwords) h) at (sym (ap (λ (f : ℕ → Series). f i j) is)))
     ∙ ap (λ (f : Series). f j) (decide-iff (zeros? t) .0 e i (omega (arith, ok .subwords .1)))
     ∙ O-at j
 
-zeros-clean : (p : Profile) (s : Series) (t : List (List Gf)) → table t ≡ received p s (2 * p .t0) → Codeword p s → (i : ℕ) → table t i ≡ O
+zeros-clean : (p : Profile) (s : Series) (t : List (List Gf))
+    → table t ≡ received p s (2 * p .t0) → Codeword p s → (i : ℕ) → table t i ≡ O
 zeros-clean p s t is c i = ap (λ (f : ℕ → Series). f i) is ∙ go (decLt i (p .subwords))
   where
     go : Dec (i < p .subwords) → received p s (2 * p .t0) i ≡ O
-    go (yes h) = rw (lt-ltb i (p .subwords) h) (cut-unique _ _ O (λ j l. c .subwords i h j l ∙ sym (O-at j)) (λ j _. O-at j))
+    go (yes h) =
+        rw (lt-ltb i (p .subwords) h) (cut-unique _ _ O (λ j l. c .subwords i h j l ∙ sym (O-at j)) (λ j _. O-at j))
     go (no h) = rw (le-ltb i (p .subwords) (omega arith))
 
-pub not-zeros : (p : Profile) (s : Series) (t : List (List Gf)) → table t ≡ received p s (2 * p .t0) → holds (zeros? t) ≡ false → false ≡ holds (codeword? p s)
+pub not-zeros : (p : Profile) (s : Series) (t : List (List Gf))
+    → table t ≡ received p s (2 * p .t0) → holds (zeros? t) ≡ false → false ≡ holds (codeword? p s)
 not-zeros p s t is e =
     sym (holds-no (codeword? p s) (λ c. true≢false (sym (holds-yes (zeros? t) (λ i _. zeros-clean p s t is c i)) ∙ e)))
 
@@ -60,13 +65,19 @@ pub roots-for : {first k j : ℕ} {t : List ℕ} → k ≡ j → Table first k t
 roots-for {first} {t = t} e = subst (λ k. Table first k t) e
 
 -- a nested word that stands in an array, and its remainder
-pub residual-left : (p : Profile) (s : Series) (l k : ℕ) (w x : List ℕ) → p .length ≤ length w → k ≡ further p → (l < p .nested → bytes w ≡ cut (p .length) (nested p s l))
+pub residual-left : (p : Profile) (s : Series) (l k : ℕ) (w x : List ℕ) → p .length ≤ length w → k ≡ further p
+    → (l < p .nested → bytes w ≡ cut (p .length) (nested p s l))
     → Residual (2 * p .t0) k (take (p .length) w) x → l < p .nested → (length x ≡ 48) × (bytes x ≡ left p s l)
-residual-left p s l k w x room count word r low =
-    (r .long, r .is ∙ prefix-residue (2 * p .t0) (p .length) k w (nested p s l) room (word low) ∙ ap (λ k. residue (2 * p .t0) (p .length) k (nested p s l)) count)
+residual-left p s l k w x room count word r low = (
+  r .long,
+  r .is ∙ prefix-residue (2 * p .t0) (p .length) k w (nested p s l) room (word low)
+      ∙ ap (λ k. residue (2 * p .t0) (p .length) k (nested p s l)) count,
+)
 
-pub three-rows : (p : Profile) (s : Series) (x y z : List ℕ) → Valid p → (0 < p .nested → (length x ≡ 48) × (bytes x ≡ left p s 0))
-    → (1 < p .nested → (length y ≡ 48) × (bytes y ≡ left p s 1)) → (2 < p .nested → (length z ≡ 48) × (bytes z ≡ left p s 2))
+pub three-rows : (p : Profile) (s : Series) (x y z : List ℕ) → Valid p
+    → (0 < p .nested → (length x ≡ 48) × (bytes x ≡ left p s 0))
+    → (1 < p .nested → (length y ≡ 48) × (bytes y ≡ left p s 1))
+    → (2 < p .nested → (length z ≡ 48) × (bytes z ≡ left p s 2))
     → Remainders p s (x ∷ y ∷ z ∷ [])
 three-rows p s x y z ok hx hy hz zero low = hx low
 three-rows p s x y z ok hx hy hz (suc zero) low = hy low
@@ -79,23 +90,33 @@ module _ (p : Profile) (s : Series) (inner : Subwords p s) where
       syndrome-nested p s l j ∙ sum-zero (p .subwords) _ (λ i u. ap (λ x. pow α (i * l) ⊙ x) (inner i u j h) ∙ ⊙-zero _)
 
   pub check-passes : ((l : ℕ) → l < p .nested → Vanish p s l) → true ≡ holds (codeword? p s)
-  check-passes h = sym (holds-yes (codeword? p s) (record { subwords = inner; nested-words = λ l u j q. go l u j q (decLt j (2 * p .t0)) }))
+  check-passes h = sym (holds-yes (codeword? p s) (record {
+    subwords = inner;
+    nested-words = λ l u j q. go l u j q (decLt j (2 * p .t0));
+  }))
     where
-      go : (l : ℕ) → l < p .nested → (j : ℕ) → j < 2 * capability p (p .nested - l) → Dec (j < 2 * p .t0) → syndrome (p .length) (nested p s l) j ≡ 𝟎
+      go : (l : ℕ) → l < p .nested → (j : ℕ) → j < 2 * capability p (p .nested - l) → Dec (j < 2 * p .t0)
+          → syndrome (p .length) (nested p s l) j ≡ 𝟎
       go l u j q (yes low) = nested-low l j low
       go l u j q (no high) = h l u j (omega arith) (omega (arith, checks-is p l))
 
 -- nested word l by the values x of its remainder, which the array r holds
-module _ (p : Profile) (s : Series) (ok : Valid p) (l k c : ℕ) (r : List ℕ) (x : List Gf) (count : k ≡ further p) (asked : c ≡ checks p l)
-    (holds-left : (length r ≡ 48) × (bytes r ≡ left p s l)) (is : row x ≡ cut c (syndrome (length (take k r)) (bytes (take k r)))) where
+module _ (p : Profile) (s : Series) (ok : Valid p) (l k c : ℕ) (r : List ℕ) (x : List Gf) (count : k ≡ further p)
+    (asked : c ≡ checks p l)
+    (holds-left : (length r ≡ 48) × (bytes r ≡ left p s l))
+    (is : row x ≡ cut c (syndrome (length (take k r)) (bytes (take k r)))) where
   pub word-syndrome : (j : ℕ) → 2 * p .t0 ≤ j → j < checks p l → row x j ≡ syndrome (p .length) (nested p s l) j
   word-syndrome j low h =
       let e : 2 * p .t0 + (j - 2 * p .t0) ≡ j = omega arith in
       ap (λ (f : Series). f j) is
       ∙ cut-low c _ j (omega (arith, asked))
       ∙ ap (λ k. syndrome (length (take k r)) (bytes (take k r)) j) count
-      ∙ (rw e at (residue-array (2 * p .t0) (p .length) (further p) (nested p s l) (omega (arith, checks-least p ok 0, checks-most p ok 0)) r
-      (omega (arith, holds-left .0, checks-most p ok 0)) (holds-left .1) (j - 2 * p .t0) (omega (arith, checks-mono p ok 0 l (omega arith)))))
+      ∙ (rw e at (residue-array (2 * p .t0) (p .length) (further p) (nested p s l)
+      (omega (arith, checks-least p ok 0, checks-most p ok 0)) r
+      (omega (arith, holds-left .0, checks-most p ok 0)) (holds-left .1) (j - 2 * p .t0)
+      (omega (arith, checks-mono p ok 0 l (omega arith)))))
 
-  pub check-fails : (j : ℕ) → l < p .nested → 2 * p .t0 ≤ j → j < checks p l → row x j ≢ 𝟎 → false ≡ holds (codeword? p s)
-  check-fails j h low q n = sym (holds-no (codeword? p s) (λ c. n (word-syndrome j low q ∙ c .nested-words l h j (omega (arith, checks-is p l)))))
+  pub check-fails : (j : ℕ) → l < p .nested → 2 * p .t0 ≤ j → j < checks p l → row x j ≢ 𝟎
+      → false ≡ holds (codeword? p s)
+  check-fails j h low q n = sym (holds-no (codeword? p s)
+      (λ c. n (word-syndrome j low q ∙ c .nested-words l h j (omega (arith, checks-is p l)))))

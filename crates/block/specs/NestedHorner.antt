@@ -2,9 +2,10 @@
 --
 --   tails n m s l i   what the subwords from i on, of m, bring to nested word l, subword i with the factor one
 --
--- Proved: α^l times what the subwords from i + 1 on bring, and subword i, is what those from i on bring; so a loop begins with zeros (horner-none), goes on
--- (horner-more), and ends at the nested word (tails-all). The symbols of a word are doubled one by one (twice-none, twice-more, twice-all), α^d is one power
--- more (power-none, power-more), and the first n of r zeros are zero (prefix-zeros).
+-- Proved: α^l times what the subwords from i + 1 on bring, and subword i, is what those from i on bring; so a loop
+-- begins with zeros (horner-none), goes on (horner-more), and ends at the nested word (tails-all). The symbols of a
+-- word are doubled one by one (twice-none, twice-more, twice-all), α^d is one power more (power-none, power-more), and
+-- the first n of r zeros are zero (prefix-zeros).
 use Prim.Native.Nat.{ℕ, suc, _+_, _-_, _*_, _≤_, _<_}
 use mathlib.Core.Path.{_≡_, sym, ap, ap₂, _∙_, fun-ext}
 use mathlib.Core.List.{List}
@@ -12,7 +13,8 @@ use native.Mathlib.Nat.{zero-add, suc-add, add-zero, add-suc, sub-zero, zero-mul
 use native.Mathlib.Numerals.{add-one}
 use native.Mathlib.Omega.{arith}
 use lib.ListN.{length, set, take, replicate, length-replicate}
-use Rattle.field.specs.Field.{F, 𝟏, α, _⊕_, _⊙_, ⊕-comm, ⊕-zero, ⊙-zero, one-⊙, ⊙-ring, pow, pow-zero, pow-suc, pow-add, of, of-zero}
+use Rattle.field.specs.Field.{F, 𝟏, α, _⊕_, _⊙_, ⊕-comm, ⊕-zero, ⊙-zero, one-⊙, ⊙-ring, pow}
+use Rattle.field.specs.Field.{pow-zero, pow-suc, pow-add, of, of-zero}
 use Rattle.series.specs.Sum.{sum, sum-none, sum-head, sum-cong, ⊙-sum}
 use Rattle.series.specs.Series.{Series, O, O-at, K, _⊞_, _⊠_, ⊠-ring, ⊞-at, K-⊠-at, K-⊕, K-⊙, ⊠-assoc, one-⊠}
 use Rattle.series.specs.Shift.{cut, cut-high, cut-⊞, cut-K-⊠}
@@ -61,7 +63,8 @@ module _ (n m : ℕ) (s : Series) (l : ℕ) where
   horner-none w z = z ∙ sym (ap (cut n) tails-none ∙ below-cut-eq n O (below-O n))
 
   -- and goes on
-  pub horner-more : (i j : ℕ) (w x v : Series) → j ≡ suc i → i < m → w ≡ cut n (tails n m s l j) → x ≡ cut n (subword n s i)
+  pub horner-more : (i j : ℕ) (w x v : Series) → j ≡ suc i → i < m → w ≡ cut n (tails n m s l j)
+      → x ≡ cut n (subword n s i)
       → v ≡ K (pow α l) ⊠ w ⊞ x → v ≡ cut n (tails n m s l i)
   horner-more i j w x v e h ew ex ev =
       ev
@@ -77,7 +80,8 @@ tails-all p s l = fun-ext (λ q. rw sub-zero (sum-cong (p .subwords) _ _ (λ k h
 pub twice-none : (f : Series) → f ≡ f ⊞ K (α ⊕ 𝟏) ⊠ cut 0 f
 twice-none f = multiple-none (α ⊕ 𝟏) f f
 
-pub twice-more : (w : List ℕ) (q v : ℕ) (f : Series) → q < length w → bytes w ≡ f ⊞ K (α ⊕ 𝟏) ⊠ cut q f → of v ≡ α ⊙ bytes w q
+pub twice-more : (w : List ℕ) (q v : ℕ) (f : Series)
+    → q < length w → bytes w ≡ f ⊞ K (α ⊕ 𝟏) ⊠ cut q f → of v ≡ α ⊙ bytes w q
     → bytes (set w q v) ≡ f ⊞ K (α ⊕ 𝟏) ⊠ cut (q + 1) f
 twice-more w q v f h e ev =
     multiple-more w q v (α ⊕ 𝟏) f f h e (ev ∙ ap (λ t. α ⊙ t) old ∙ sum (f q) ∙ ap (λ t. t ⊕ (α ⊕ 𝟏) ⊙ f q) (sym old))
@@ -90,7 +94,8 @@ twice-more w q v f h e ev =
 
 pub twice-all : (q : ℕ) (w : List ℕ) → length w ≤ q → bytes w ⊞ K (α ⊕ 𝟏) ⊠ cut q (bytes w) ≡ K α ⊠ bytes w
 twice-all q w h =
-    ap (λ (g : Series). bytes w ⊞ K (α ⊕ 𝟏) ⊠ g) (below-cut-eq q _ (below-weaken (length w) q _ (below-read of 0 of-zero w) h)) ∙ shape (bytes w)
+    ap (λ (g : Series). bytes w ⊞ K (α ⊕ 𝟏) ⊠ g)
+    (below-cut-eq q _ (below-weaken (length w) q _ (below-read of 0 of-zero w) h)) ∙ shape (bytes w)
   where
     shape : (f : Series) → f ⊞ K (α ⊕ 𝟏) ⊠ f ≡ K α ⊠ f
     shape f = rw K-⊕ (simp ⊠-ring)
@@ -107,4 +112,5 @@ power-more d f g h eg eh = eh ∙ ap (λ (g : Series). K α ⊠ g) eg ∙ rw (ad
 
 pub prefix-zeros : (n r : ℕ) → n ≤ r → bytes (take n (replicate r 0)) ≡ O
 prefix-zeros n r h =
-    read-prefix of 0 of-zero n (replicate r 0) (omega (arith, length-replicate {A = ℕ} r 0)) ∙ ap (cut n) (zeros r) ∙ below-cut-eq n O (below-O n)
+    read-prefix of 0 of-zero n (replicate r 0) (omega (arith, length-replicate {A = ℕ} r 0)) ∙ ap (cut n) (zeros r)
+    ∙ below-cut-eq n O (below-O n)

@@ -27,7 +27,8 @@ pub record Fits (p : Profile) (b : List ℕ) : Type 0 where
   pub size : length b ≡ block-size p
 
 -- subword i lies inside the block, and a block is small
-pub inside : (p : Profile) (b : List ℕ) (i : ℕ) → Fits p b → i < p .subwords → (i * p .length + p .length ≤ length b) × (length b ≤ 2040)
+pub inside : (p : Profile) (b : List ℕ) (i : ℕ) → Fits p b → i < p .subwords
+    → (i * p .length + p .length ≤ length b) × (length b ≤ 2040)
 inside p b i f h =
     let here : suc i * p .length ≤ p .subwords * p .length = mul-le-mul-right (p .length) h in
     let all : p .subwords * p .length ≤ 8 * p .length = mul-le-mul-right (p .length) (f .valid .subwords .1) in
@@ -41,26 +42,33 @@ prefix-at n l g e q b = read-take of 0 n l q b ∙ ap (λ (f : Series). f q) e �
 pub prefix-residue : (first n k : ℕ) (l : List ℕ) (g : Series) → n ≤ length l → bytes l ≡ cut n g
     → residue first (length (take n l)) k (bytes (take n l)) ≡ residue first n k g
 prefix-residue first n k l g h e =
-    ap (λ m. residue first m k (bytes (take n l))) (length-take-le n l h) ∙ residue-cong first n k _ g (prefix-at n l g e)
+    ap (λ m. residue first m k (bytes (take n l))) (length-take-le n l h)
+    ∙ residue-cong first n k _ g (prefix-at n l g e)
 
 -- ---- a subword as a part of the block, k being the number of its symbols that the code has
 
 pub part-length : (n i k : ℕ) (b : List ℕ) → k ≡ n → i * n + n ≤ length b → length (take k (drop (i * n) b)) ≡ n
 part-length n i k b e h =
-    ap (λ k. length (take k (drop (i * n) b))) e ∙ length-take-le n (drop (i * n) b) (omega (arith, length-drop (i * n) b))
+    ap (λ k. length (take k (drop (i * n) b))) e
+    ∙ length-take-le n (drop (i * n) b) (omega (arith, length-drop (i * n) b))
 
-pub part-is : (n i k : ℕ) (b : List ℕ) → k ≡ n → i * n + n ≤ length b → bytes (take k (drop (i * n) b)) ≡ cut n (subword n (bytes b) i)
+pub part-is : (n i k : ℕ) (b : List ℕ) → k ≡ n → i * n + n ≤ length b
+    → bytes (take k (drop (i * n) b)) ≡ cut n (subword n (bytes b) i)
 part-is n i k b e h = ap (λ k. bytes (take k (drop (i * n) b))) e ∙ subword-part n b i h
 
-part-at : (n i k : ℕ) (b : List ℕ) → k ≡ n → i * n + n ≤ length b → (q : ℕ) → q < n → bytes (take k (drop (i * n) b)) q ≡ subword n (bytes b) i q
+part-at : (n i k : ℕ) (b : List ℕ) → k ≡ n → i * n + n ≤ length b → (q : ℕ) → q < n
+    → bytes (take k (drop (i * n) b)) q ≡ subword n (bytes b) i q
 part-at n i k b e h q l = ap (λ (f : Series). f q) (part-is n i k b e h) ∙ cut-low n _ q l
 
 pub part-syndrome : (n i k : ℕ) (b : List ℕ) → k ≡ n → i * n + n ≤ length b
     → syndrome (length (take k (drop (i * n) b))) (bytes (take k (drop (i * n) b))) ≡ syndrome n (subword n (bytes b) i)
 part-syndrome n i k b e h =
-    ap (λ l. syndrome l (bytes (take k (drop (i * n) b)))) (part-length n i k b e h) ∙ fun-ext (syndrome-cong n _ _ (part-at n i k b e h))
+    ap (λ l. syndrome l (bytes (take k (drop (i * n) b)))) (part-length n i k b e h)
+    ∙ fun-ext (syndrome-cong n _ _ (part-at n i k b e h))
 
 pub part-residue : (n i k : ℕ) (b : List ℕ) (r : ℕ) → k ≡ n → i * n + n ≤ length b
-    → residue 0 (length (take k (drop (i * n) b))) r (bytes (take k (drop (i * n) b))) ≡ residue 0 n r (subword n (bytes b) i)
+    → residue 0 (length (take k (drop (i * n) b))) r (bytes (take k (drop (i * n) b)))
+    ≡ residue 0 n r (subword n (bytes b) i)
 part-residue n i k b r e h =
-    ap (λ l. residue 0 l r (bytes (take k (drop (i * n) b)))) (part-length n i k b e h) ∙ residue-cong 0 n r _ _ (part-at n i k b e h)
+    ap (λ l. residue 0 l r (bytes (take k (drop (i * n) b)))) (part-length n i k b e h)
+    ∙ residue-cong 0 n r _ _ (part-at n i k b e h)

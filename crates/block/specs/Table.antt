@@ -35,12 +35,15 @@ rows-none f = fun-ext (λ i. same 8 i ∙ sym (rw (le-ltb i 0 (omega arith))))
     same (suc r) zero = row-zeros
     same (suc r) (suc i) = same r i
 
-pub rows-more : (t : List (List Gf)) (i : ℕ) (r : List Gf) (f : ℕ → Series) → i < length t → table t ≡ rows i f → row r ≡ f i → table (set t i r) ≡ rows (i + 1) f
+pub rows-more : (t : List (List Gf)) (i : ℕ) (r : List Gf) (f : ℕ → Series)
+    → i < length t → table t ≡ rows i f → row r ≡ f i → table (set t i r) ≡ rows (i + 1) f
 rows-more t i r f h e q = fun-ext (λ a. go a (ℕ-discrete a i) (decLt a i))
   where
     go : (a : ℕ) → Dec (a ≡ i) → Dec (a < i) → table (set t i r) a ≡ rows (i + 1) f a
     go a (yes s) l = rw (s, lt-ltb i (i + 1) (omega arith)) (ap row (getD-set-same t i r [] h) ∙ q)
     go a (no s) (yes l) =
-        ap row (getD-set-other t i a r [] s) ∙ ap (λ (g : ℕ → Series). g a) e ∙ rw (lt-ltb a i l, lt-ltb a (i + 1) (omega arith))
+        ap row (getD-set-other t i a r [] s) ∙ ap (λ (g : ℕ → Series). g a) e
+        ∙ rw (lt-ltb a i l, lt-ltb a (i + 1) (omega arith))
     go a (no s) (no l) =
-        ap row (getD-set-other t i a r [] s) ∙ ap (λ (g : ℕ → Series). g a) e ∙ rw (le-ltb a i (omega arith), le-ltb a (i + 1) (omega arith))
+        ap row (getD-set-other t i a r [] s) ∙ ap (λ (g : ℕ → Series). g a) e
+        ∙ rw (le-ltb a i (omega arith), le-ltb a (i + 1) (omega arith))

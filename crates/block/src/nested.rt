@@ -1,5 +1,5 @@
 // Nested words of a block, FORMAT's nested sums (3.4).
-ghost use Prim.Native.Nat.{_≤_, _<_};
+ghost use Prim.Native.Nat.{_<_};
 ghost use mathlib.Core.Path.{_≡_};
 ghost use lib.ListN.{length};
 ghost use Rattle.field.specs.Field.{α, pow};

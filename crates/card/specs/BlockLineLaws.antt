@@ -14,7 +14,8 @@ use Rattle.card.specs.SectionDefinition.{accepts}
 use Rattle.card.specs.SectionLaws.{accepts-valid}
 use Rattle.card.specs.BlockLineDefinition.{line, told}
 
-pub told-line : (i : ℕ) (r : Result) (a : Answer) (n m : ℕ) → a ≡ answer-to r → n ≡ report-of r .last → m ≡ report-of r .changed → told i a n m ≡ line i r
+pub told-line : (i : ℕ) (r : Result) (a : Answer) (n m : ℕ)
+    → a ≡ answer-to r → n ≡ report-of r .last → m ≡ report-of r .changed → told i a n m ≡ line i r
 told-line i (read p s x) a n m e f g = ap (λ a. told i a n m) e ∙ ap₂ (ok-line i) f g
 told-line i (refused q) a n m e f g = ap (λ a. told i a n m) e
 

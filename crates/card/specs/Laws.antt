@@ -1,6 +1,7 @@
 -- The tables that are kept from section to section.
 --
--- Proved: the tables for a section serve what comes next (made-next); none are asked for where a section was cut (cut-kept).
+-- Proved: the tables for a section serve what comes next (made-next); none are asked for where a section was cut
+-- (cut-kept).
 use Prim.Native.Nat.{ℕ, _+_}
 use mathlib.Core.Path.{_≡_, subst⁻¹}
 use mathlib.Core.Bool.{Bool, true, false, cond}
@@ -8,7 +9,6 @@ use mathlib.Core.List.{List}
 use native.Mathlib.Omega.{arith}
 use lib.Dec.{eqb, ltb}
 use lib.ListN.{getD}
-use Rattle.profile.specs.declared.Profile.{Profile}
 use Rattle.profile.specs.declared.Parsed.{Parsed}
 use Rattle.profile.specs.declared.Parsed.the-variants.{Accepted, Refused}
 use Rattle.profile.specs.Questions.{profile-of}

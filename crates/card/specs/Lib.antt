@@ -9,8 +9,9 @@ pub mod HeadingDefinition
 -- block_line: BlockLineDefinition is what the promises speak of.
 pub mod BlockLineDefinition
 pub mod BlockLineLaws
--- printed: PrintedDefinition is what is printed for a card, PrintedStep what is promised of one section after the other, PrintedWhole that together they print the list; PrintedFollows and PrintedFalls are
--- its two halves: every step prints what it has to, and brings the end nearer.
+-- printed: PrintedDefinition is what is printed for a card, PrintedStep what is promised of one section after the
+-- other, PrintedWhole that together they print the list; PrintedFollows and PrintedFalls are its two halves: every step
+-- prints what it has to, and brings the end nearer.
 pub mod PrintedDefinition
 pub mod PrintedStep
 pub mod PrintedFollows

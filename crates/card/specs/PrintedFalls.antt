@@ -42,8 +42,10 @@ from-left p i k = go (ltb i k)
     go true = omega arith
     go false = omega arith
 
-whole-falls : (s : Section) (y : List ℕ) → ((j : ℕ) → getD y j 0 ≤ 255) → over s ≡ false → left (whole s (take (size s) y) .next) < left s
-whole-falls Size y h o = either (eqb (getD (take 1 y) 0 0) 7) (silent Bytes) (refusal (number-of ProfileSize)) (left Size) (omega arith) (omega arith)
+whole-falls : (s : Section) (y : List ℕ) → ((j : ℕ) → getD y j 0 ≤ 255) → over s ≡ false
+    → left (whole s (take (size s) y) .next) < left s
+whole-falls Size y h o = either (eqb (getD (take 1 y) 0 0) 7) (silent Bytes) (refusal (number-of ProfileSize))
+    (left Size) (omega arith) (omega arith)
 whole-falls Bytes y h o = go (profile-of (take 7 y))
   where
     go : (a : Parsed) → left (profile-step a .next) < left Bytes
@@ -64,9 +66,11 @@ whole-falls Over y h o = absurd (true≢false o)
 cut-falls : (s : Section) → over s ≡ false → left (cut s .next) < left s
 cut-falls s o = either (ends s) (silent Over) (refusal 11) (left s) (some-left s o) (some-left s o)
 
-pub step-falls : (s : Section) (y : List ℕ) → ((j : ℕ) → getD y j 0 ≤ 255) → over s ≡ false → left (step (known s) y .next) < left s
+pub step-falls : (s : Section) (y : List ℕ) → ((j : ℕ) → getD y j 0 ≤ 255) → over s ≡ false
+    → left (step (known s) y .next) < left s
 step-falls s y h o = go (good s)
   where
     go : (g : Bool) → left (step (cond g s Over) y .next) < left s
-    go true = either (ltb (length y) (size s)) (cut s) (whole s (take (size s) y)) (left s) (cut-falls s o) (whole-falls s y h o)
+    go true = either (ltb (length y) (size s)) (cut s) (whole s (take (size s) y)) (left s)
+        (cut-falls s o) (whole-falls s y h o)
     go false = either (ltb (length y) 0) (silent Over) (silent Over) (left s) (some-left s o) (some-left s o)

@@ -1,8 +1,10 @@
 -- A step prints what is to be printed.
 --
---   Follows x a d    the step x leads to a section that a card can lead to; and a, what was to be printed, is the text of x, and what is printed for the rest d
+--   Follows x a d    the step x leads to a section that a card can lead to; and a, what was to be printed, is the text
+--                    of x, and what is printed for the rest d
 --
--- Proved: every step of a section that a card can lead to does so (follows), whether it is cut or whole (cut-good, whole-good).
+-- Proved: every step of a section that a card can lead to does so (follows), whether it is cut or whole (cut-good,
+-- whole-good).
 use Prim.Native.Nat.{ℕ, zero, suc, _+_, _-_, _≤_, _<_}
 use mathlib.Core.Path.{_≡_, refl, sym, ap, ap₂, _∙_, subst⁻¹}
 use mathlib.Core.Logic.{by-cases}
@@ -38,13 +40,15 @@ pub record Follows (x : Step) (a d : List ℕ) : Type 0 where
 refused : (q : ℕ) (d : List ℕ) → Follows (refusal q) (card-line q) d
 refused q d = record { good = refl; says = sym (append-nil (card-line q)) }
 
-pick : (b : Bool) {x z : Step} {u v d : List ℕ} → (b ≡ true → Follows x u d) → (b ≡ false → Follows z v d) → Follows (cond b x z) (cond b u v) d
+pick : (b : Bool) {x z : Step} {u v d : List ℕ} → (b ≡ true → Follows x u d) → (b ≡ false → Follows z v d)
+    → Follows (cond b x z) (cond b u v) d
 pick true h g = h refl
 pick false h g = g refl
 
 -- ---- what comes next
 
-size-follows : (n : ℕ) (d : List ℕ) → Follows (size-step n) (cond (eqb n 7) (profiled d) (card-line (number-of ProfileSize))) d
+size-follows : (n : ℕ) (d : List ℕ)
+    → Follows (size-step n) (cond (eqb n 7) (profiled d) (card-line (number-of ProfileSize))) d
 size-follows n d = pick (eqb n 7) (λ _. record { good = refl; says = refl }) (λ _. refused 1 d)
 
 profile-follows : (y d : List ℕ) → Follows (profile-step (profile-of y)) (profile-judged (profile-of y) d) d
@@ -72,10 +76,12 @@ from-after p i k d = go (ltb i k) refl
     go true h = refl
     go false h = ap (λ (r : ℕ). blocks p r i d) (none (ltb-false i k h))
 
-count-follows : (p : Profile) (k : ℕ) (d : List ℕ) → accepts p ≡ true → Follows (count-step p k) (blocks-line k ++ blocks p k 0 d) d
+count-follows : (p : Profile) (k : ℕ) (d : List ℕ) → accepts p ≡ true
+    → Follows (count-step p k) (blocks-line k ++ blocks p k 0 d) d
 count-follows p k d a = record {
   good = from-good p 0 k a;
-  says = ap (λ (u : List ℕ). blocks-line k ++ u) (ap (λ (r : ℕ). blocks p r 0 d) (sym (sub-zero k)) ∙ from-after p 0 k d);
+  says =
+      ap (λ (u : List ℕ). blocks-line k ++ u) (ap (λ (r : ℕ). blocks p r 0 d) (sym (sub-zero k)) ∙ from-after p 0 k d);
 }
 
 block-follows : (p : Profile) (i k : ℕ) (y d : List ℕ) → accepts p ≡ true
@@ -93,14 +99,16 @@ front-length : (n : ℕ) (c : List ℕ) → ltb (length (take n c)) n ≡ ltb (l
 front-length n c =
     by-cases (decLt (length c) n)
     (λ h. ap (λ (l : List ℕ). ltb (length l) n) (take-all n c (omega arith)))
-    (λ h. le-ltb (length (take n c)) n (omega (arith, length-take-le n c (omega arith))) ∙ sym (le-ltb (length c) n (omega arith)))
+    (λ h. le-ltb (length (take n c)) n (omega (arith, length-take-le n c (omega arith)))
+    ∙ sym (le-ltb (length c) n (omega arith)))
 
 front-front : (n : ℕ) (c : List ℕ) → take n (take n c) ≡ take n c
 front-front zero c = refl
 front-front (suc n) [] = refl
 front-front (suc n) (a ∷ c) = ap (λ (l : List ℕ). a ∷ l) (front-front n c)
 
-step-front : (s : Section) (c : List ℕ) → step s (take (size s) c) ≡ cond (ltb (length c) (size s)) (cut s) (whole s (take (size s) c))
+step-front : (s : Section) (c : List ℕ)
+    → step s (take (size s) c) ≡ cond (ltb (length c) (size s)) (cut s) (whole s (take (size s) c))
 step-front s c = ap₂ (λ b y. cond b (cut s) (whole s y)) (front-length (size s) c) (front-front (size s) c)
 
 one-less : (i k : ℕ) → i < k → k - i ≡ suc (k - suc i)
@@ -108,13 +116,16 @@ one-less i k h = omega arith
 
 front : (s : Section) (c : List ℕ) → good s ≡ true
     → Follows (cond (ltb (length c) (size s)) (cut s) (whole s (take (size s) c))) (after s c) (drop (size s) c)
-front Size c g = pick (ltb (length c) 1) (λ _. refused 11 (drop 1 c)) (λ _. size-follows (getD (take 1 c) 0 0) (drop 1 c))
+front Size c g =
+    pick (ltb (length c) 1) (λ _. refused 11 (drop 1 c)) (λ _. size-follows (getD (take 1 c) 0 0) (drop 1 c))
 front Bytes c g = pick (ltb (length c) 7) (λ _. refused 11 (drop 7 c)) (λ _. profile-follows (take 7 c) (drop 7 c))
-front (Count p) c g = pick (ltb (length c) 2) (λ _. refused 11 (drop 2 c)) (λ _. count-follows p (count-of (take 2 c)) (drop 2 c) g)
+front (Count p) c g =
+    pick (ltb (length c) 2) (λ _. refused 11 (drop 2 c)) (λ _. count-follows p (count-of (take 2 c)) (drop 2 c) g)
 front (Block p i k) c g =
     let (l, a) = and-eq-true-iff (ltb i k) _ .0 g in
     let n = block-size p in
-    subst⁻¹ (λ (r : ℕ). Follows (cond (ltb (length c) n) (refusal 11) (whole (Block p i k) (take n c))) (blocks p r i c) (drop n c))
+    subst⁻¹ (λ (r : ℕ).
+    Follows (cond (ltb (length c) n) (refusal 11) (whole (Block p i k) (take n c))) (blocks p r i c) (drop n c))
     (one-less i k (ltb-true i k l))
     (pick (ltb (length c) n) (λ _. refused 11 (drop n c)) (λ _. block-follows p i k (take n c) (drop n c) a))
 front End c g = pick (ltb (length c) 1) (λ _. record { good = refl; says = refl }) (λ _. refused 12 (drop 1 c))
@@ -124,8 +135,10 @@ front Over c g = go (ltb (length c) 0)
     go true = record { good = refl; says = refl }
     go false = record { good = refl; says = refl }
 
-pub follows : (s : Section) (y c : List ℕ) → good s ≡ true → y ≡ take (size s) c → Follows (step s y) (after s c) (drop (size s) c)
-follows s y c g e = subst⁻¹ (λ x. Follows x (after s c) (drop (size s) c)) (ap (step s) e ∙ step-front s c) (front s c g)
+pub follows : (s : Section) (y c : List ℕ) → good s ≡ true → y ≡ take (size s) c
+    → Follows (step s y) (after s c) (drop (size s) c)
+follows s y c g e =
+    subst⁻¹ (λ x. Follows x (after s c) (drop (size s) c)) (ap (step s) e ∙ step-front s c) (front s c g)
 
 -- ---- what comes next is good
 

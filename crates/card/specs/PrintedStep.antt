@@ -5,9 +5,9 @@
 --   step s y         .. of which y is there, or more than all of it: only its own bytes are of interest
 --   after s c        what is printed for the rest c of a card, at the front of which s comes next
 --   rest s c         .. nothing if no card leads to s
---   Judges s y l t m what judging hands back is t, given y where s comes next, the line being l before it and m after it: it
---                    takes the step of s (of Over, if no card leads to s); and for every card of which y is next, what was to
---                    be printed is what t printed, and what is to be printed after it
+--   Judges s y l t m what judging hands back is t, given y where s comes next, the line being l before it and m after
+--                    it: it takes the step of s (of Over, if no card leads to s); and for every card of which y is
+--                    next, what was to be printed is what t printed, and what is to be printed after it
 use Prim.Native.Nat.{ℕ, _+_, _-_, _≤_, _<_}
 use mathlib.Core.Path.{_≡_}
 use mathlib.Core.Bool.{false, cond}
@@ -18,7 +18,8 @@ use Rattle.profile.specs.Questions.{profile-of}
 use Rattle.card.specs.declared.section.Section.{Section}
 use Rattle.card.specs.declared.section.Section.the-variants.{Size, Bytes, Count, Block, End, Over}
 use Rattle.card.specs.declared.section.Judged.{Judged}
-use Rattle.card.specs.SectionDefinition.{known, size, wanted, ends, over, left, from, Step, silent, refusal, Takes}
+use Rattle.card.specs.SectionDefinition.{known, size, wanted, ends, over, left}
+use Rattle.card.specs.SectionDefinition.{from, Step, silent, refusal, Takes}
 use Rattle.card.specs.HeadingDefinition.{size-step, profile-step, count-step}
 use Rattle.card.specs.BlockLineDefinition.{block-line}
 use Rattle.card.specs.PrintedDefinition.{end, blocks, count-of, counted, profiled, printed}

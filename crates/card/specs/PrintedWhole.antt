@@ -1,11 +1,11 @@
 -- Section after section, the list of the card is printed.
 --
---   Run s c o    judging that begins where the section s comes next, with the rest c of a card, print the text o: each is given as many bytes as are wanted, or what
---                is left of the card
+--   Run s c o    judging that begins where the section s comes next, with the rest c of a card, print the text o: each
+--                is given as many bytes as are wanted, or what is left of the card
 --
--- Proved: judging that takes the step of its section prints what it has to (judges), and leads to a section that a card leads
--- to (step-good); runs print what is to be printed (run-says), so from the start of a card they print its list (list-printed).
--- How short the reads were that brought the bytes of a section does not enter.
+-- Proved: judging that takes the step of its section prints what it has to (judges), and leads to a section that a card
+-- leads to (step-good); runs print what is to be printed (run-says), so from the start of a card they print its list
+-- (list-printed). How short the reads were that brought the bytes of a section does not enter.
 use Prim.Native.Nat.{ℕ, _≤_, _<_}
 use mathlib.Core.Path.{_≡_, refl, sym, ap, ap₂, _∙_, subst, subst⁻¹}
 use mathlib.Core.Bool.{Bool, true, false, cond}
@@ -34,10 +34,12 @@ step-whole s y h = sym (ap (λ b. cond b (cut s) (whole s (take (size s) y))) (l
 
 module _ (s : Section) (y l m : List ℕ) (t : Judged) (h : Takes (step (known s) y) l t m) where
   taken : take (t .size) m ≡ step (known s) y .text
-  taken = ap (take (t .size)) (h .line .says) ∙ take-at (step (known s) y .text) (drop (t .size) l) (t .size) (sym (h .line .size))
+  taken = ap (take (t .size)) (h .line .says)
+      ∙ take-at (step (known s) y .text) (drop (t .size) l) (t .size) (sym (h .line .size))
 
   inside : t .size ≤ length m
-  inside = omega (arith, h .line .size, ap length (h .line .says), length-append (step (known s) y .text) (drop (t .size) l))
+  inside =
+      omega (arith, h .line .size, ap length (h .line .says), length-append (step (known s) y .text) (drop (t .size) l))
 
   pub judges : ((j : ℕ) → getD y j 0 ≤ 255) → Judges s y l t m
   judges small = record {
@@ -46,16 +48,19 @@ module _ (s : Section) (y l m : List ℕ) (t : Judged) (h : Takes (step (known s
     falls = λ o. rw (h .next) (step-falls s y small o);
     says = λ c e.
         let x = follows (known s) y c (known-good s) e in
-        let next : known (t .next) ≡ step (known s) y .next = ap known (h .next) ∙ good-known (step (known s) y .next) (x .good) in
+        let next : known (t .next) ≡ step (known s) y .next = ap known (h .next)
+        ∙ good-known (step (known s) y .next) (x .good) in
         x .says ∙ ap₂ _++_ (sym taken) (ap (λ n. after n (drop (wanted s) c)) (sym next));
   }
 
 -- of a section that a card leads to
-pub judges-good : (s : Section) (y l m : List ℕ) (t : Judged) → good s ≡ true → Takes (step s y) l t m → ((j : ℕ) → getD y j 0 ≤ 255)
+pub judges-good : (s : Section) (y l m : List ℕ) (t : Judged) → good s ≡ true → Takes (step s y) l t m
+    → ((j : ℕ) → getD y j 0 ≤ 255)
     → Judges s y l t m
 judges-good s y l m t g h = judges s y l m t (subst⁻¹ (λ r. Takes (step r y) l t m) (good-known s g) h)
 
-pub step-good : (s : Section) (y l m : List ℕ) (t : Judged) → good s ≡ true → Takes (step s y) l t m → good (t .next) ≡ true
+pub step-good : (s : Section) (y l m : List ℕ) (t : Judged)
+    → good s ≡ true → Takes (step s y) l t m → good (t .next) ≡ true
 step-good s y l m t g h = ap good (h .next) ∙ go (ltb (length y) (size s))
   where
     go : (b : Bool) → good (cond b (cut s) (whole s (take (size s) y)) .next) ≡ true
@@ -72,12 +77,14 @@ judges-known s r y l m t e h = judges s y l m t (subst (λ r. Takes (step r y) l
 
 pub data Run : Section → List ℕ → List ℕ → Type 0 where
   over : (c : List ℕ) → Run Over c []
-  next : (s : Section) (c o l : List ℕ) (t : Judged) (m : List ℕ) → Judges s (take (wanted s) c) l t m → Run (t .next) (drop (wanted s) c) o
+  next : (s : Section) (c o l : List ℕ) (t : Judged) (m : List ℕ) → Judges s (take (wanted s) c) l t m
+      → Run (t .next) (drop (wanted s) c) o
       → Run s c (take (t .size) m ++ o)
 
 pub run-says : (s : Section) (c o : List ℕ) → Run s c o → o ≡ rest s c
 run-says _ _ _ (over c) = refl
-run-says _ _ _ (next s c p l t m h r) = ap (λ (u : List ℕ). take (t .size) m ++ u) (run-says (t .next) (drop (wanted s) c) p r) ∙ sym (h .says c refl)
+run-says _ _ _ (next s c p l t m h r) =
+    ap (λ (u : List ℕ). take (t .size) m ++ u) (run-says (t .next) (drop (wanted s) c) p r) ∙ sym (h .says c refl)
 
 pub list-printed : (c o : List ℕ) → Run Size c o → o ≡ printed c
 list-printed c o r = run-says Size c o r

@@ -1,7 +1,8 @@
 -- The sections of a card, as they are judged.
 --
 --   accepts p          the profile p passes questions 2 to 5
---   good s             a card can lead to the section s: its profile was accepted, and the number of its block is below the number of blocks
+--   good s             a card can lead to the section s: its profile was accepted, and the number of its block is below
+--                      the number of blocks
 --   known s            s, or Over if no card leads to it
 --   size s             how many bytes the section s has
 --   wanted s           how many bytes come next: none if no card leads to s
@@ -10,7 +11,8 @@
 --   over s             all is printed
 --   left s             so many sections at most are left
 --   from p i k         block i out of k, or the end
---   Step               what a section comes to: the text that is printed, and what comes next (silent: no text; refusal: the card is refused)
+--   Step               what a section comes to: the text that is printed, and what comes next (silent: no text;
+--                      refusal: the card is refused)
 --   Takes x l t m      t is what the step x hands back: the line was l, and is m now
 use Prim.Native.Nat.{ℕ, suc, _-_}
 use mathlib.Core.Path.{_≡_}

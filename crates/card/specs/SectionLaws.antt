@@ -1,9 +1,9 @@
 -- What the tests of profiles and sections come to.
 --
 -- Proved: a profile that is accepted, n being a byte, is valid (accepts-valid), and its blocks have at most 2040 bytes
--- (accepts-size, block-most); the profile of bytes that are accepted is (profile-accepts); the section that is known in place of another is
--- one that a card leads to (known-good), and in place of such a one it is itself (good-known); judging that prints nothing
--- (takes-silent).
+-- (accepts-size, block-most); the profile of bytes that are accepted is (profile-accepts); the section that is known in
+-- place of another is one that a card leads to (known-good), and in place of such a one it is itself (good-known);
+-- judging that prints nothing (takes-silent).
 use Prim.Native.Nat.{ℕ, _≤_}
 use mathlib.Core.Path.{_≡_, refl, sym, ap, _∙_, subst, subst⁻¹}
 use mathlib.Core.Bool.{Bool, true, false, cond, true≢false, and-eq-true-iff}

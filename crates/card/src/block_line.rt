@@ -67,8 +67,8 @@ fn read_block(
     told(i, a, report.last, report.changed, line)
 }
 
-// Prints the line of block i. The tables serve the blocks of a card one after the other: they are made for the first block, and
-// for any block if they are not kept.
+// Prints the line of block i. The tables serve the blocks of a card one after the other: they are made for the first
+// block, and for any block if they are not kept.
 pub fn print(
     p: Profile,
     i: u16,

@@ -1,5 +1,5 @@
-// The sections before the blocks: how many bytes the profile has, the profile, how many blocks there are; and the line of a card that is refused.
-// What the promises speak of stands in specs/HeadingDefinition.antt.
+// The sections before the blocks: how many bytes the profile has, the profile, how many blocks there are; and the line
+// of a card that is refused. What the promises speak of stands in specs/HeadingDefinition.antt.
 ghost use Prim.Native.Nat.{_+_, _*_};
 ghost use Rattle.profile.specs.Questions.{profile-of};
 ghost use Rattle.card.specs.SectionDefinition.{refusal, Takes};

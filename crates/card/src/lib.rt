@@ -1,5 +1,6 @@
-// A card, section by section: each is judged as it arrives, and a line is printed for it. What one section comes to, and that all
-// of them together print the list of the card, stands in specs/PrintedStep.antt and specs/PrintedWhole.antt.
+// A card, section by section: each is judged as it arrives, and a line is printed for it. What one section comes to,
+// and that all of them together print the list of the card, stands in specs/PrintedStep.antt and
+// specs/PrintedWhole.antt.
 mod block_line;
 mod heading;
 pub mod section;
@@ -42,7 +43,8 @@ fn judge_block(
     line: &mut [u8; LINE],
 ) -> Judged
     requires { ⌜ (i < k) × Fits p (now block) × (kept ≡ true → Kept (Section.Block p i k) (now t) (now u)) ⌝ }
-    ensures { λ r. ⌜ Takes (Whole (Section.Block p i k) (now (block .entry))) (now (line .entry)) r (now (line .exit)) ⌝ }
+    ensures { λ r. ⌜ Takes (Whole (Section.Block p i k) (now (block .entry)))
+        (now (line .entry)) r (now (line .exit)) ⌝ }
     ensures made { λ r. ⌜ Made (Section.Block p i k) (now (t .exit)) (now (u .exit)) ⌝ }
 {
     let size = crate::block_line::print(p, i, kept, t, u, block, line);
@@ -91,8 +93,9 @@ fn cut(s: Section, line: &mut [u8; LINE]) -> Judged
     crate::heading::refuse(CUT, line)
 }
 
-// Judges a section that a card leads to as `judge` does, with arrays lent for the tables that blocks are divided by. Whoever
-// lends the same arrays for section after section says `kept`: the tables are made once for a card, and its profile is judged once.
+// Judges a section that a card leads to as `judge` does, with arrays lent for the tables that blocks are divided by.
+// Whoever lends the same arrays for section after section says `kept`: the tables are made once for a card, and its
+// profile is judged once.
 pub fn judge_kept(
     s: Section,
     kept: bool,
@@ -113,9 +116,9 @@ pub fn judge_kept(
     whole(s, kept, t, u, &bytes[..n], line)
 }
 
-// The section that comes next is judged: as many bytes as are wanted, or fewer, if those are the last of the card. Bytes beyond
-// those that are wanted are of no interest, and a section that no card leads to is taken for the last, for which nothing is
-// printed.
+// The section that comes next is judged: as many bytes as are wanted, or fewer, if those are the last of the card.
+// Bytes beyond those that are wanted are of no interest, and a section that no card leads to is taken for the last, for
+// which nothing is printed.
 pub fn judge(s: Section, bytes: &[u8], line: &mut [u8; LINE]) -> Judged
     ensures { λ t. ⌜ Judges s (now (bytes .entry)) (now (line .entry)) t (now (line .exit)) ⌝ }
 {

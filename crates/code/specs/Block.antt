@@ -2,9 +2,10 @@
 --
 --   Agree p i s t    the blocks s and t have the same subwords from i on
 --
--- Proved: blocks agree from subword i on where their symbols from i × n to m × n are the same (agree-block), and have the same first m × n symbols
--- where they agree from 0 on (block-agree); a block is a codeword, or encodes data, by its subwords (codeword-cong, encodes-cong); the syndromes of a
--- nested word are the sums of its subwords' syndromes (syndrome-nested).
+-- Proved: blocks agree from subword i on where their symbols from i × n to m × n are the same (agree-block), and have
+-- the same first m × n symbols where they agree from 0 on (block-agree); a block is a codeword, or encodes data, by its
+-- subwords (codeword-cong, encodes-cong); the syndromes of a nested word are the sums of its subwords' syndromes
+-- (syndrome-nested).
 use Prim.Native.Nat.{ℕ, zero, suc, _+_, _*_, _/_, _%_, _≤_, _<_}
 use mathlib.Core.Path.{_≡_, refl, sym, _∙_, ap}
 use native.Mathlib.Nat.{mul-zero, suc-mul, mul-le-mul-right, div-add-mod', mod-lt, div-lt-iff-lt-mul}
@@ -30,18 +31,22 @@ position-most m n i q h l = omega (arith, suc-mul i n, mul-le-mul-right n h)
 -- ---- what depends on the first m × n symbols only
 
 abbrev pub Agree : Profile → ℕ → Series → Series → Type 0
-Agree p i s t = (k : ℕ) → i ≤ k → k < p .subwords → (q : ℕ) → q < p .length → subword (p .length) s k q ≡ subword (p .length) t k q
+Agree p i s t = (k : ℕ) → i ≤ k → k < p .subwords → (q : ℕ) → q < p .length
+    → subword (p .length) s k q ≡ subword (p .length) t k q
 
-pub agree-block : (p : Profile) (i : ℕ) (s t : Series) → ((a : ℕ) → i * p .length ≤ a → a < block-size p → s a ≡ t a) → Agree p i s t
+pub agree-block : (p : Profile) (i : ℕ) (s t : Series)
+    → ((a : ℕ) → i * p .length ≤ a → a < block-size p → s a ≡ t a) → Agree p i s t
 unfolding subword
 agree-block p i s t h k u l q r =
-    h (k * p .length + q) (omega (arith, mul-le-mul-right (p .length) u)) (position-most (p .subwords) (p .length) k q l r)
+    h (k * p .length + q) (omega (arith, mul-le-mul-right (p .length) u))
+    (position-most (p .subwords) (p .length) k q l r)
 
 pub block-agree : (p : Profile) (s t : Series) → Agree p 0 s t → (a : ℕ) → a < block-size p → s a ≡ t a
 unfolding subword
 block-agree p s t h a l =
     let pos : 0 < p .length = some (p .length) l in
-    rw (div-add-mod' a (p .length)) at (h (a / p .length) (omega arith) (div-lt-iff-lt-mul pos .1 l) (a % p .length) (mod-lt a pos))
+    rw (div-add-mod' a (p .length)) at
+    (h (a / p .length) (omega arith) (div-lt-iff-lt-mul pos .1 l) (a % p .length) (mod-lt a pos))
   where
     some : (n : ℕ) → a < p .subwords * n → 0 < n
     some zero l = absurd (omega (arith, mul-zero (p .subwords)))
@@ -67,6 +72,7 @@ module _ (p : Profile) (s t : Series) (same : Agree p 0 s t) where
 -- ---- syndromes of nested words
 
 pub syndrome-nested : (p : Profile) (s : Series) (l j : ℕ)
-    → syndrome (p .length) (nested p s l) j ≡ sum (p .subwords) (λ i. pow α (i * l) ⊙ syndrome (p .length) (subword (p .length) s i) j)
+    → syndrome (p .length) (nested p s l) j
+    ≡ sum (p .subwords) (λ i. pow α (i * l) ⊙ syndrome (p .length) (subword (p .length) s i) j)
 unfolding nested
 syndrome-nested p s l j = syndrome-sum (p .subwords) (p .length) _ (subword (p .length) s) j

@@ -5,8 +5,9 @@
 --   received p s k   the syndromes j < k of the subwords of the block s
 --   sums p s w       m words that tell a codeword: the nested words, then the subwords from v on
 --
--- Proved: a block of a valid profile is a codeword if the syndromes below `checks p w` of its m words are zero (sums-codeword).
-use Prim.Native.Nat.{ℕ, _*_, _≤_, _<_}
+-- Proved: a block of a valid profile is a codeword if the syndromes below `checks p w` of its m words are zero
+-- (sums-codeword).
+use Prim.Native.Nat.{ℕ, _≤_, _<_}
 use mathlib.Core.Path.{_≡_}
 use mathlib.Core.Bool.{cond}
 use native.Mathlib.Omega.{arith}
@@ -49,7 +50,8 @@ module _ (p : Profile) (s : Series) where
   sums-high w h = rw (le-ltb w (p .nested) h)
 
   -- the subwords below v follow from the others and the nested words: the triangular form
-  pub sums-codeword : Valid p → ((w : ℕ) → w < p .subwords → (j : ℕ) → j < checks p w → syndrome (p .length) (sums p s w) j ≡ 𝟎) → Codeword p s
+  pub sums-codeword : Valid p
+      → ((w : ℕ) → w < p .subwords → (j : ℕ) → j < checks p w → syndrome (p .length) (sums p s w) j ≡ 𝟎) → Codeword p s
   sums-codeword ok h =
       triangle-codeword p s ok
       (checked-triangle p s ok (λ i l u j q. rw (sums-high i l) at (h i u j (omega (arith, checks-high p i l))))

@@ -2,8 +2,9 @@
 --
 --   combined n s c a r   the sum of c k times subword k of the block s, over the r subwords from a on
 --
--- Proved: no subword and one subword more (combined-none, combined-more); from subword v on nothing is carried (carried-none); a
--- subword as a part of the bytes of a block (subword-part), and a multiple of it added to a word (add-part), or itself (sum-part).
+-- Proved: no subword and one subword more (combined-none, combined-more); from subword v on nothing is carried
+-- (carried-none); a subword as a part of the bytes of a block (subword-part), and a multiple of it added to a word
+-- (add-part), or itself (sum-part).
 use Prim.Native.Nat.{ℕ, suc, _+_, _-_, _*_, _≤_, _<_}
 use mathlib.Core.Path.{_≡_, refl, sym, ap, ap₂, _∙_, fun-ext}
 use mathlib.Core.List.{List, _++_}
@@ -27,7 +28,8 @@ combined n s c a r q = sum r (λ k. c (a + k) ⊙ subword n s (a + k) q)
 module _ (n : ℕ) (s : Series) (c : ℕ → F) (a : ℕ) where
   combined-suc : (r : ℕ) → combined n s c a (suc r) ≡ combined n s c a r ⊞ K (c (a + r)) ⊠ subword n s (a + r)
   unfolding combined
-  combined-suc r = fun-ext (λ q. sum-suc r _ ∙ sym (⊞-at _ _ q ∙ ap (λ t. combined n s c a r q ⊕ t) (K-⊠-at (c (a + r)) (subword n s (a + r)) q)))
+  combined-suc r = fun-ext (λ q.
+      sum-suc r _ ∙ sym (⊞-at _ _ q ∙ ap (λ t. combined n s c a r q ⊕ t) (K-⊠-at (c (a + r)) (subword n s (a + r)) q)))
 
   -- a loop begins with zeros
   pub combined-none : (k r : ℕ) → k ≡ a → bytes (replicate r 0) ≡ cut n (combined n s c a (k - a))
@@ -42,7 +44,8 @@ module _ (n : ℕ) (s : Series) (c : ℕ → F) (a : ℕ) where
       ∙ below-cut-eq n O (below-O n))
 
   -- and goes on
-  pub combined-more : (k : ℕ) (x : F) (w v : Series) → a ≤ k → x ≡ c k → w ≡ cut n (combined n s c a (k - a)) → v ≡ w ⊞ K x ⊠ cut n (subword n s k)
+  pub combined-more : (k : ℕ) (x : F) (w v : Series) → a ≤ k → x ≡ c k → w ≡ cut n (combined n s c a (k - a))
+      → v ≡ w ⊞ K x ⊠ cut n (subword n s k)
       → v ≡ cut n (combined n s c a (k + 1 - a))
   combined-more k x w v h ex ew ev =
       let e : k + 1 - a ≡ suc (k - a) = omega arith in
@@ -57,7 +60,8 @@ module _ (n : ℕ) (s : Series) (c : ℕ → F) (a : ℕ) where
       ∙ ap (λ (i : ℕ). cut n (combined n s c a (k - a)) ⊞ K (c i) ⊠ cut n (subword n s i)) f)
 
 -- from subword v on zeros are carried
-pub carried-none : (p : Profile) (s : Series) (i r : ℕ) → p .nested ≤ i → bytes (replicate r 0) ≡ cut (p .length) (carried p s i)
+pub carried-none : (p : Profile) (s : Series) (i r : ℕ) → p .nested ≤ i
+    → bytes (replicate r 0) ≡ cut (p .length) (carried p s i)
 carried-none p s i r h =
     read-zeros of 0 of-zero r O
     ∙ cut-none O
@@ -69,11 +73,13 @@ subword-drop : (n : ℕ) (s : Series) (i : ℕ) → subword n s i ≡ drop (i * 
 unfolding subword
 subword-drop n s i = fun-ext (λ q. sym (drop-at (i * n) s q))
 
-pub subword-part : (n : ℕ) (b : List ℕ) (i : ℕ) → i * n + n ≤ length b → bytes (take n (drop-list (i * n) b)) ≡ cut n (subword n (bytes b) i)
+pub subword-part : (n : ℕ) (b : List ℕ) (i : ℕ) → i * n + n ≤ length b
+    → bytes (take n (drop-list (i * n) b)) ≡ cut n (subword n (bytes b) i)
 subword-part n b i h = read-part of 0 of-zero (i * n) n b h ∙ ap (cut n) (sym (subword-drop n (bytes b) i))
 
 -- a multiple of subword i, added in the first n entries of w
-pub add-part : (n i k : ℕ) (b w y : List ℕ) (f c : F) → f ≡ c → k ≡ n → i * n + n ≤ length b → n ≤ length w → length y ≡ n
+pub add-part : (n i k : ℕ) (b w y : List ℕ) (f c : F)
+    → f ≡ c → k ≡ n → i * n + n ≤ length b → n ≤ length w → length y ≡ n
     → bytes y ≡ bytes (take n w) ⊞ K f ⊠ bytes (take k (drop-list (i * n) b))
     → bytes (y ++ drop-list n w) ≡ bytes w ⊞ K c ⊠ cut n (subword n (bytes b) i)
 add-part n i k b w y f c ef ek hb hw ly e = fun-ext (λ q. go q (decLt q n) ∙ sym (⊞-at (bytes w) (K c ⊠ g) q))
@@ -84,7 +90,8 @@ add-part n i k b w y f c ef ek hb hw ly e = fun-ext (λ q. go q (decLt q n) ∙ 
     inside : bytes y ≡ bytes (take n w) ⊞ K c ⊠ g
     inside =
         e
-        ∙ ap₂ (λ (a : F) (r : Series). bytes (take n w) ⊞ K a ⊠ r) ef (ap (λ (k : ℕ). bytes (take k (drop-list (i * n) b))) ek ∙ subword-part n b i hb)
+        ∙ ap₂ (λ (a : F) (r : Series). bytes (take n w) ⊞ K a ⊠ r) ef
+        (ap (λ (k : ℕ). bytes (take k (drop-list (i * n) b))) ek ∙ subword-part n b i hb)
 
     go : (q : ℕ) → Dec (q < n) → bytes (y ++ drop-list n w) q ≡ bytes w q ⊕ (K c ⊠ g) q
     go q (yes l) =
@@ -103,6 +110,8 @@ add-part n i k b w y f c ef ek hb hw ly e = fun-ext (λ q. go q (decLt q n) ∙ 
 
 -- the subword as it is
 pub sum-part : (n i k : ℕ) (b w y : List ℕ) → k ≡ n → i * n + n ≤ length b → n ≤ length w → length y ≡ n
-    → bytes y ≡ bytes (take n w) ⊞ bytes (take k (drop-list (i * n) b)) → bytes (y ++ drop-list n w) ≡ bytes w ⊞ cut n (subword n (bytes b) i)
+    → bytes y ≡ bytes (take n w) ⊞ bytes (take k (drop-list (i * n) b))
+    → bytes (y ++ drop-list n w) ≡ bytes w ⊞ cut n (subword n (bytes b) i)
 sum-part n i k b w y ek hb hw ly e =
-    add-part n i k b w y 𝟏 𝟏 refl ek hb hw ly (e ∙ ap (λ (f : Series). bytes (take n w) ⊞ f) (sym (one-⊠ _))) ∙ ap (λ (f : Series). bytes w ⊞ f) (one-⊠ _)
+    add-part n i k b w y 𝟏 𝟏 refl ek hb hw ly (e ∙ ap (λ (f : Series). bytes (take n w) ⊞ f) (sym (one-⊠ _)))
+    ∙ ap (λ (f : Series). bytes w ⊞ f) (one-⊠ _)

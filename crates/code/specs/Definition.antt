@@ -29,7 +29,8 @@ pub record Codeword (p : Profile) (s : Series) : Type 0 where
 
 -- FORMAT 3.7: data fill the data places of strip 0 with rising places, then those of strip 1, and so on
 abbrev pub Carries : Profile → Series → Series → Type 0
-Carries p d s = (i : ℕ) → i < p .subwords → (q : ℕ) → q < data-length p i → subword (p .length) s i (checks p i + q) ≡ d (data-start p i + q)
+Carries p d s = (i : ℕ) → i < p .subwords → (q : ℕ) → q < data-length p i
+    → subword (p .length) s i (checks p i + q) ≡ d (data-start p i + q)
 
 pub record Encodes (p : Profile) (d s : Series) : Type 0 where
   pub code : Codeword p s

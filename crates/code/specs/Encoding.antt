@@ -4,8 +4,9 @@
 --   encodes? p d s   whether the block s encodes the data d
 --   encoding p d     the first word of m × n symbols that encodes the data d
 --
--- Proved, for a valid profile: two blocks that encode the same data are the same (encodes-unique); a word that encodes d is the encoding
--- (encoding-is, encoding-bytes); every d has one (encoding-some), made subword by subword from the last to the first.
+-- Proved, for a valid profile: two blocks that encode the same data are the same (encodes-unique); a word that encodes
+-- d is the encoding (encoding-is, encoding-bytes); every d has one (encoding-some), made subword by subword from the
+-- last to the first.
 use Prim.Native.Nat.{ℕ, zero, suc, _+_, _-_, _*_, _≤_, _<_}
 use mathlib.Core.Path.{_≡_, sym, _∙_, ap}
 use mathlib.Core.Logic.{ite, if-pos, if-neg, Dec·and, Dec·of-iff}
@@ -43,11 +44,13 @@ codeword? p s =
     (all? (p .nested) (λ l. in-code? (p .length) (capability p (p .nested - l)) (nested p s l))))
 
 carries? : (p : Profile) (d s : Series) → Dec (Carries p d s)
-carries? p d s = all? (p .subwords) (λ i. all? (data-length p i) (λ q. subword (p .length) s i (checks p i + q) ≟ d (data-start p i + q)))
+carries? p d s = all? (p .subwords)
+    (λ i. all? (data-length p i) (λ q. subword (p .length) s i (checks p i + q) ≟ d (data-start p i + q)))
 
 pub encodes? : (p : Profile) (d s : Series) → Dec (Encodes p d s)
 encodes? p d s =
-    Dec·of-iff (λ (a, b). record { code = a; carries = b }, λ e. (e .code, e .carries)) (Dec·and (codeword? p s) (carries? p d s))
+    Dec·of-iff (λ (a, b). record { code = a; carries = b }, λ e. (e .code, e .carries))
+    (Dec·and (codeword? p s) (carries? p d s))
 
 unfoldable pub encoding : Profile → List F → Option (List F)
 encoding p d = first (block-size p) (λ w. encodes? p (entry d) (entry w))
@@ -61,20 +64,24 @@ module _ (p : Profile) (ok : Valid p) (d s t : Series) (a : Encodes p d s) (b : 
   same-last (suc r) h =
       let e : suc (p .subwords - suc r) ≡ p .subwords - r = omega arith in
       right-unique p ok d s t (p .subwords - suc r) (rw e (same-last r (omega arith)))
-      (right-all p ok d s a (p .subwords - suc r) (omega arith)) (right-all p ok d t b (p .subwords - suc r) (omega arith))
+      (right-all p ok d s a (p .subwords - suc r) (omega arith))
+      (right-all p ok d t b (p .subwords - suc r) (omega arith))
 
   pub encodes-unique : (k : ℕ) → k < block-size p → s k ≡ t k
   encodes-unique = block-agree p s t (λ k u v. same-last (p .subwords) (omega arith) k (omega arith) v)
 
 -- all that an encoder has to show
-pub encoding-is : (p : Profile) → Valid p → (d w : List F) → length w ≡ block-size p → Encodes p (entry d) (entry w) → encoding p d ≡ some w
+pub encoding-is : (p : Profile) → Valid p → (d w : List F)
+    → length w ≡ block-size p → Encodes p (entry d) (entry w) → encoding p d ≡ some w
 unfolding encoding
 encoding-is p ok d w l e =
-    first-one (block-size p) _ w l e (λ v k f. word-ext (block-size p) v w k l (encodes-unique p ok (entry d) (entry v) (entry w) f e))
+    first-one (block-size p) _ w l e
+    (λ v k f. word-ext (block-size p) v w k l (encodes-unique p ok (entry d) (entry v) (entry w) f e))
 
 pub encoding-bytes : (p : Profile) → Valid p → (d s : List ℕ) → length s ≡ block-size p → Encodes p (bytes d) (bytes s)
     → encoding p (map of d) ≡ some (map of s)
-encoding-bytes p ok d s l e = encoding-is p ok (map of d) (map of s) (length-map s of ∙ l) (rw (← bytes-entry d, ← bytes-entry s) e)
+encoding-bytes p ok d s l e =
+    encoding-is p ok (map of d) (map of s) (length-map s of ∙ l) (rw (← bytes-entry d, ← bytes-entry s) e)
 
 -- ---- every data has an encoding
 
@@ -90,7 +97,8 @@ over-same n i w s q h =
 
 over-above : (n i : ℕ) (w s : Series) (k q : ℕ) → i < k → subword n (over n i w s) k q ≡ subword n s k q
 unfolding over subword
-over-above n i w s k q h = if-neg (decLt (k * n + q) (suc i * n)) (λ l. absurd (omega (arith, mul-le-mul-right n h))) _ _
+over-above n i w s k q h =
+    if-neg (decLt (k * n + q) (suc i * n)) (λ l. absurd (omega (arith, mul-le-mul-right n h))) _ _
 
 module _ (p : Profile) (ok : Valid p) (d : Series) where
   -- subword i over the subwords above it
@@ -110,7 +118,8 @@ module _ (p : Profile) (ok : Valid p) (d : Series) where
     next-right =
         right-step p ok d next (carried p s i) given i
         (λ q l. sym (carried-cong p s next i next-above q l))
-        (λ q l. let e : checks p i + q - checks p i ≡ q = omega arith in ap (λ k. d (data-start p i + k) ⊕ carried p s i (checks p i + q)) e)
+        (λ q l. let e : checks p i + q - checks p i ≡ q = omega arith in
+        ap (λ k. d (data-start p i + k) ⊕ carried p s i (checks p i + q)) e)
         (λ q l. over-same (p .length) i _ s q l)
 
   -- the last r subwords are right
@@ -122,7 +131,8 @@ module _ (p : Profile) (ok : Valid p) (d : Series) where
       (next i s, λ k l u. go s right k l u (ℕ-discrete k i))
     where
       go : (s : Series) → ((i : ℕ) → i < p .subwords → p .subwords ≤ i + r → Right p d s i)
-          → (k : ℕ) → k < p .subwords → p .subwords ≤ k + suc r → Dec (k ≡ p .subwords - suc r) → Right p d (next (p .subwords - suc r) s) k
+          → (k : ℕ) → k < p .subwords → p .subwords ≤ k + suc r → Dec (k ≡ p .subwords - suc r)
+          → Right p d (next (p .subwords - suc r) s) k
       go s right k l u (yes e) = rw e (next-right (p .subwords - suc r) s)
       go s right k l u (no e) =
           right-stays p d s _ k l (λ j v. next-above (p .subwords - suc r) s j (omega arith)) (right k l (omega arith))

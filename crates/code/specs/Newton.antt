@@ -2,16 +2,16 @@
 --
 --   newton i k    (x + α^0)(x + α^1) .. (x + α^(i-1)) at x = α^k: zero for k below i, and not zero from i on
 --
--- Proved, for values x 0, .., x (m - 1): the sums over k of α^(k l) · x k with l ≤ L are all zero just where those of newton i k · x k with i ≤ L are
--- (newton-zero, power-zero).
+-- Proved, for values x 0, .., x (m - 1): the sums over k of α^(k l) · x k with l ≤ L are all zero just where those of
+-- newton i k · x k with i ≤ L are (newton-zero, power-zero).
 use Prim.Native.Nat.{ℕ, zero, suc, _+_, _*_, _≤_, _<_}
 use mathlib.Core.Path.{_≡_, refl, sym, _∙_, ap, ap₂}
 use mathlib.Core.Logic.{_≢_}
 use native.Mathlib.Nat.{mul-zero, mul-suc}
 use native.Mathlib.Omega.{arith}
 use native.Mathlib.Decide.{decLe}
-use Rattle.field.specs.Field.{F, 𝟎, 𝟏, α, _⊕_, _⊙_, ⊕-self, ⊕-group, ⊙-zero, zero-⊙, ⊙-one, one-⊙, ⊙-ring, one≢zero, ⊙-nonzero}
-use Rattle.field.specs.Field.{pow, pow-zero, pow-add, power-apart}
+use Rattle.field.specs.Field.{F, 𝟎, 𝟏, α, _⊕_, _⊙_, ⊕-self, ⊕-group, ⊙-zero, zero-⊙, ⊙-one, one-⊙, ⊙-ring, one≢zero}
+use Rattle.field.specs.Field.{⊙-nonzero, pow, pow-zero, pow-add, power-apart}
 use Rattle.series.specs.Sum.{sum, sum-cong, sum-⊕, ⊙-sum}
 
 unfoldable pub newton : ℕ → ℕ → F
@@ -37,7 +37,8 @@ newton-low (suc i) k h = newton-suc i k ∙ go (newton-low i k) (decLe i k)
 pub newton-nonzero : (i k : ℕ) → i ≤ k → k < 255 → newton i k ≢ 𝟎
 unfolding newton
 newton-nonzero zero k h q = one≢zero
-newton-nonzero (suc i) k h q = ⊙-nonzero _ _ (newton-nonzero i k (omega arith) q) (power-apart k i q (omega arith) (omega arith))
+newton-nonzero (suc i) k h q =
+    ⊙-nonzero _ _ (newton-nonzero i k (omega arith) q) (power-apart k i q (omega arith) (omega arith))
 
 -- ---- sums
 
@@ -78,8 +79,10 @@ module _ (m : ℕ) (x : ℕ → F) where
   unfolding mixed
   newton-is i = sum-cong m _ _ (λ k q. rw (mul-zero, pow-zero, one-⊙))
 
-  pub newton-zero : (L : ℕ) → ((l : ℕ) → l ≤ L → sum m (λ k. pow α (k * l) ⊙ x k) ≡ 𝟎) → sum m (λ k. newton L k ⊙ x k) ≡ 𝟎
+  pub newton-zero : (L : ℕ) → ((l : ℕ) → l ≤ L → sum m (λ k. pow α (k * l) ⊙ x k) ≡ 𝟎)
+      → sum m (λ k. newton L k ⊙ x k) ≡ 𝟎
   newton-zero L h = sym (newton-is L) ∙ from-powers L (λ l q. power-is l ∙ h l q) L 0 (omega arith)
 
-  pub power-zero : (L : ℕ) → ((i : ℕ) → i ≤ L → sum m (λ k. newton i k ⊙ x k) ≡ 𝟎) → sum m (λ k. pow α (k * L) ⊙ x k) ≡ 𝟎
+  pub power-zero : (L : ℕ) → ((i : ℕ) → i ≤ L → sum m (λ k. newton i k ⊙ x k) ≡ 𝟎)
+      → sum m (λ k. pow α (k * L) ⊙ x k) ≡ 𝟎
   power-zero L h = sym (power-is L) ∙ from-newton L (λ i q. newton-is i ∙ h i q) L 0 (omega arith)

@@ -1,10 +1,12 @@
 -- Encoding subword by subword, from the last to the first.
 --
---   Right p d s i   subword i of the block s carries its data of d, and its corner has zero syndromes below `checks p i`
+--   Right p d s i   subword i of the block s carries its data of d, and its corner has zero syndromes below
+--                   `checks p i`
 --
--- Proved, for a valid profile: a block encodes d just where every subword is right (all-right, right-all); whether subword i is right depends on the
--- subwords from i on (right-stays), and only one subword i is right over given subwords above it (right-unique); subword i is right if it is what is
--- carried to it plus the systematic word of its data plus what is carried (right-step).
+-- Proved, for a valid profile: a block encodes d just where every subword is right (all-right, right-all); whether
+-- subword i is right depends on the subwords from i on (right-stays), and only one subword i is right over given
+-- subwords above it (right-unique); subword i is right if it is what is carried to it plus the systematic word of its
+-- data plus what is carried (right-step).
 use Prim.Native.Nat.{ℕ, suc, _+_, _-_, _≤_, _<_}
 use mathlib.Core.Path.{_≡_, sym, _∙_, ap, ap₂}
 use native.Mathlib.Omega.{arith}
@@ -32,19 +34,22 @@ right-all p ok d s e i h = record { carries = e .carries i h; zeros = codeword-t
 
 -- ---- two blocks
 
-corner-cong : (p : Profile) (s t : Series) (i : ℕ) → i < p .subwords → Agree p i s t → (q : ℕ) → q < p .length → corner p s i q ≡ corner p t i q
+corner-cong : (p : Profile) (s t : Series) (i : ℕ) → i < p .subwords → Agree p i s t → (q : ℕ) → q < p .length
+    → corner p s i q ≡ corner p t i q
 corner-cong p s t i h same q l =
     ⊞-at _ _ q
     ∙ ap₂ _⊕_ (same i (omega arith) h q l) (carried-cong p s t i (λ k u. same k (omega arith)) q l)
     ∙ sym (⊞-at _ _ q)
 
-pub right-stays : (p : Profile) (d s t : Series) (i : ℕ) → i < p .subwords → Agree p i s t → Right p d s i → Right p d t i
+pub right-stays : (p : Profile) (d s t : Series) (i : ℕ)
+    → i < p .subwords → Agree p i s t → Right p d s i → Right p d t i
 right-stays p d s t i h same r = record {
   carries = λ q l. sym (same i (omega arith) h (checks p i + q) (omega arith)) ∙ r .carries q l;
   zeros = λ j l. sym (syndrome-cong (p .length) _ _ (corner-cong p s t i h same) j) ∙ r .zeros j l;
 }
 
-module _ (p : Profile) (ok : Valid p) (d s t : Series) (i : ℕ) (same : Agree p (suc i) s t) (a : Right p d s i) (b : Right p d t i) where
+module _ (p : Profile) (ok : Valid p) (d s t : Series) (i : ℕ) (same : Agree p (suc i) s t) (a : Right p d s i)
+    (b : Right p d t i) where
   same-data : (q : ℕ) → checks p i ≤ q → q < p .length → subword (p .length) s i q ≡ subword (p .length) t i q
   same-data q h l =
       let e : q ≡ checks p i + (q - checks p i) = omega arith in
@@ -52,7 +57,8 @@ module _ (p : Profile) (ok : Valid p) (d s t : Series) (i : ℕ) (same : Agree p
 
   same-corner : (q : ℕ) → q < p .length → corner p s i q ≡ corner p t i q
   same-corner =
-      systematic-unique (p .length) (checks p i) _ _ (omega (arith, checks-below p ok i)) (omega (arith, checks-below p ok i))
+      systematic-unique (p .length) (checks p i) _ _ (omega (arith, checks-below p ok i))
+      (omega (arith, checks-below p ok i))
       (λ q h l. ⊞-at _ _ q ∙ ap₂ _⊕_ (same-data q h l) (carried-cong p s t i same q l) ∙ sym (⊞-at _ _ q))
       (λ j h. a .zeros j h ∙ sym (b .zeros j h))
 
@@ -63,7 +69,8 @@ module _ (p : Profile) (ok : Valid p) (d s t : Series) (i : ℕ) (same : Agree p
       go (yes e) =
           rw e
           (⊕-cancel (carried p s i q)
-          (sym (⊞-at _ _ q) ∙ same-corner q l ∙ ⊞-at _ _ q ∙ ap (λ x. subword (p .length) t i q ⊕ x) (sym (carried-cong p s t i same q l))))
+          (sym (⊞-at _ _ q) ∙ same-corner q l ∙ ⊞-at _ _ q
+          ∙ ap (λ x. subword (p .length) t i q ⊕ x) (sym (carried-cong p s t i same q l))))
       go (no e) = same k (omega arith) u q l
 
 -- ---- one subword
@@ -76,9 +83,12 @@ pub right-step : (p : Profile) → Valid p → (d s c x : Series) (i : ℕ)
 right-step p ok d s c x i carry given is = record {
   carries = λ q l.
       is (checks p i + q) (omega arith)
-      ∙ ap (λ t. c (checks p i + q) ⊕ t) (systematic-data (p .length) (checks p i) x (checks p i + q) (omega arith) ∙ given q l)
+      ∙ ap (λ t. c (checks p i + q) ⊕ t)
+      (systematic-data (p .length) (checks p i) x (checks p i + q) (omega arith) ∙ given q l)
       ∙ simp ⊕-group;
   zeros = λ j l.
-      syndrome-cong (p .length) _ (systematic (p .length) (checks p i) x) (λ q r. ⊞-at _ _ q ∙ ap₂ _⊕_ (is q r) (carry q r) ∙ simp ⊕-group) j
-      ∙ systematic-zero (p .length) (checks p i) x (omega (arith, checks-below p ok i)) (omega (arith, checks-below p ok i)) j l;
+      syndrome-cong (p .length) _ (systematic (p .length) (checks p i) x)
+      (λ q r. ⊞-at _ _ q ∙ ap₂ _⊕_ (is q r) (carry q r) ∙ simp ⊕-group) j
+      ∙ systematic-zero (p .length) (checks p i) x (omega (arith, checks-below p ok i))
+      (omega (arith, checks-below p ok i)) j l;
 }

@@ -1,12 +1,15 @@
--- Codewords in triangular form: subword i and what the subwords above it bring to it are one Reed-Solomon word with `checks p i` zero syndromes.
+-- Codewords in triangular form: subword i and what the subwords above it bring to it are one Reed-Solomon word with
+-- `checks p i` zero syndromes.
 --
---   ratio v i k     subword k's factor in what is carried to subword i: newton i k / newton i i for i below v, else zero
+--   ratio v i k     subword k's factor in what is carried to subword i: newton i k / newton i i for i below
+--                   v, else zero
 --   carried p s i   what the subwords above i bring to subword i
 --   corner p s i    subword i with what is carried to it
 --   Triangle p s    each corner has zero syndromes below `checks p i`
 --
--- Proved: nothing is carried from subword v on (carried-high); for a valid profile, a block is a codeword just where it is triangular
--- (codeword-triangle, triangle-codeword), and for that the nested words and the subwords from v on are enough (checked-triangle).
+-- Proved: nothing is carried from subword v on (carried-high); for a valid profile, a block is a codeword just where it
+-- is triangular (codeword-triangle, triangle-codeword), and for that the nested words and the subwords from v on are
+-- enough (checked-triangle).
 use Prim.Native.Nat.{ℕ, zero, suc, _+_, _-_, _≤_, _<_}
 use mathlib.Core.Path.{_≡_, refl, sym, _∙_, ap, ap₂}
 use mathlib.Core.Bool.{cond}
@@ -14,7 +17,8 @@ use native.Mathlib.Omega.{arith}
 use native.Mathlib.Decide.{decLt}
 use borrow.Author.Tests.{lt-ltb, le-ltb}
 use lib.Dec.{ltb}
-use Rattle.field.specs.Field.{F, 𝟎, _⊕_, _⊙_, zero-⊕, ⊕-zero, ⊙-zero, zero-⊙, one-⊙, ⊙-⊕, ⊙-ring, inv, mul-inv, ⊙-factor}
+use Rattle.field.specs.Field.{F, 𝟎, _⊕_, _⊙_, zero-⊕, ⊕-zero, ⊙-zero, zero-⊙, one-⊙, ⊙-⊕}
+use Rattle.field.specs.Field.{⊙-ring, inv, mul-inv, ⊙-factor}
 use Rattle.series.specs.Sum.{sum, sum-suc, sum-cong, sum-zero, ⊙-sum, sum-split}
 use Rattle.series.specs.Series.{Series, _⊞_}
 use Rattle.profile.specs.declared.Profile.{Profile}
@@ -47,15 +51,18 @@ unfolding ratio
 ratio-high v i k h = rw (le-ltb i v h)
 
 pub carried-at : (p : Profile) (s : Series) (i q : ℕ)
-    → carried p s i q ≡ sum (p .subwords - suc i) (λ k. ratio (p .nested) i (suc i + k) ⊙ subword (p .length) s (suc i + k) q)
+    → carried p s i q
+    ≡ sum (p .subwords - suc i) (λ k. ratio (p .nested) i (suc i + k) ⊙ subword (p .length) s (suc i + k) q)
 unfolding carried
 carried-at p s i q = refl
 
 -- what is carried to subword i depends on the subwords above it
-pub carried-cong : (p : Profile) (s t : Series) (i : ℕ) → Agree p (suc i) s t → (q : ℕ) → q < p .length → carried p s i q ≡ carried p t i q
+pub carried-cong : (p : Profile) (s t : Series) (i : ℕ) → Agree p (suc i) s t → (q : ℕ) → q < p .length
+    → carried p s i q ≡ carried p t i q
 unfolding carried
 carried-cong p s t i same q h =
-    sum-cong (p .subwords - suc i) _ _ (λ k l. ap (λ x. ratio (p .nested) i (suc i + k) ⊙ x) (same (suc i + k) (omega arith) (omega arith) q h))
+    sum-cong (p .subwords - suc i) _ _
+    (λ k l. ap (λ x. ratio (p .nested) i (suc i + k) ⊙ x) (same (suc i + k) (omega arith) (omega arith) q h))
 
 -- ---- corners of values, one value for each subword
 
@@ -85,10 +92,13 @@ module _ (m v : ℕ) (x : ℕ → F) (i : ℕ) where
           ∙ zero-⊕ _
 
       out : (b t : F) → b ⊙ t ≡ newton i i ⊙ (b ⊙ inv (newton i i) ⊙ t)
-      out b t = sym (ap (λ u. u ⊙ (b ⊙ t)) (mul-inv (newton i i) (newton-nonzero i i (omega arith) small)) ∙ one-⊙ (b ⊙ t)) ∙ simp ⊙-ring
+      out b t =
+          sym (ap (λ u. u ⊙ (b ⊙ t)) (mul-inv (newton i i) (newton-nonzero i i (omega arith) small)) ∙ one-⊙ (b ⊙ t))
+          ∙ simp ⊙-ring
 
       rest : sum (m - suc i) (λ k. newton i (suc i + k) ⊙ x (suc i + k)) ≡ newton i i ⊙ above
-      rest = sum-cong (m - suc i) _ _ (λ k l. rw (ratio-low v i (suc i + k) h) (out _ _)) ∙ sym (⊙-sum (newton i i) (m - suc i) _)
+      rest = sum-cong (m - suc i) _ _ (λ k l. rw (ratio-low v i (suc i + k) h) (out _ _))
+          ∙ sym (⊙-sum (newton i i) (m - suc i) _)
 
 -- ---- blocks
 
@@ -101,15 +111,18 @@ module _ (p : Profile) (s : Series) where
   each : ℕ → ℕ → F
   each j k = syndrome (p .length) (subword (p .length) s k) j
 
-  corner-syndrome : (i j : ℕ) → syndrome (p .length) (corner p s i) j ≡ each j i ⊕ above (p .subwords) (p .nested) (each j) i
+  corner-syndrome : (i j : ℕ)
+      → syndrome (p .length) (corner p s i) j ≡ each j i ⊕ above (p .subwords) (p .nested) (each j) i
   unfolding carried each above
   corner-syndrome i j =
       syndrome-⊞ (p .length) _ _ j
-      ∙ ap (λ t. each j i ⊕ t) (syndrome-sum (p .subwords - suc i) (p .length) _ (λ k. subword (p .length) s (suc i + k)) j)
+      ∙ ap (λ t. each j i ⊕ t)
+      (syndrome-sum (p .subwords - suc i) (p .length) _ (λ k. subword (p .length) s (suc i + k)) j)
 
   module _ (ok : Valid p) where
     -- the first v subwords are not asked for
-    pub checked-triangle : ((i : ℕ) → p .nested ≤ i → i < p .subwords → InCode (p .length) (p .t0) (subword (p .length) s i))
+    pub checked-triangle : ((i : ℕ) → p .nested ≤ i → i < p .subwords
+        → InCode (p .length) (p .t0) (subword (p .length) s i))
         → ((l : ℕ) → l < p .nested → InCode (p .length) (capability p (p .nested - l)) (nested p s l)) → Triangle p s
     unfolding each
     checked-triangle high low i h j q = corner-syndrome i j ∙ go (decLt i (p .nested))
@@ -119,7 +132,8 @@ module _ (p : Profile) (s : Series) where
             ⊙-factor (newton i i) _ (newton-nonzero i i (omega arith) (omega arith))
             (sym (corner-low (p .subwords) (p .nested) (each j) i below h (omega arith))
             ∙ newton-zero (p .subwords) (each j) i (λ l u.
-            sym (syndrome-nested p s l j) ∙ low l (omega arith) j (omega (arith, checks-is p l, checks-mono p ok l i u))))
+            sym (syndrome-nested p s l j)
+            ∙ low l (omega arith) j (omega (arith, checks-is p l, checks-mono p ok l i u))))
         go (no from) =
             ap₂ _⊕_ (high i (omega arith) h j (omega (arith, checks-high p i (omega arith))))
             (above-high (p .subwords) (p .nested) (each j) i (omega arith))
@@ -130,13 +144,15 @@ module _ (p : Profile) (s : Series) where
 
     module _ (t : Triangle p s) where
       -- from the last subword down: r of them are left
-      subwords-from : (r i : ℕ) → i < p .subwords → p .subwords ≤ i + r → InCode (p .length) (p .t0) (subword (p .length) s i)
+      subwords-from : (r i : ℕ) → i < p .subwords → p .subwords ≤ i + r
+          → InCode (p .length) (p .t0) (subword (p .length) s i)
       unfolding each above
       subwords-from zero i h l j q = absurd (omega arith)
       subwords-from (suc r) i h l j q =
           sym (⊕-zero _)
           ∙ ap (λ w. each j i ⊕ w) (sym (sum-zero (p .subwords - suc i) _ (λ k u.
-          ap (λ w. ratio (p .nested) i (suc i + k) ⊙ w) (subwords-from r (suc i + k) (omega arith) (omega arith) j q) ∙ ⊙-zero _)))
+          ap (λ w. ratio (p .nested) i (suc i + k) ⊙ w) (subwords-from r (suc i + k) (omega arith) (omega arith) j q)
+          ∙ ⊙-zero _)))
           ∙ sym (corner-syndrome i j)
           ∙ t i h j (omega (arith, checks-least p ok i))
 
@@ -146,8 +162,12 @@ module _ (p : Profile) (s : Series) where
           syndrome-nested p s l j
           ∙ power-zero (p .subwords) (each j) l (λ i u.
           corner-low (p .subwords) (p .nested) (each j) i (omega arith) (omega arith) (omega arith)
-          ∙ ap (λ w. newton i i ⊙ w) (sym (corner-syndrome i j) ∙ t i (omega arith) j (omega (arith, checks-is p l, checks-mono p ok i l u)))
+          ∙ ap (λ w. newton i i ⊙ w)
+          (sym (corner-syndrome i j) ∙ t i (omega arith) j (omega (arith, checks-is p l, checks-mono p ok i l u)))
           ∙ ⊙-zero _)
 
       pub triangle-codeword : Codeword p s
-      triangle-codeword = record { subwords = λ i h. subwords-from (p .subwords) i h (omega arith); nested-words = nested-from }
+      triangle-codeword = record {
+        subwords = λ i h. subwords-from (p .subwords) i h (omega arith);
+        nested-words = nested-from;
+      }

@@ -4,7 +4,8 @@
 --   syndrome n w j      the value of the word w at root j: S_j
 --   InCode n t w        w is in the code of capability t, FORMAT's strength
 --   upper k w           w with zeros in its first k positions
---   check-symbols n k w the symbols for the first k positions that make k syndromes zero, given w's symbols from position k on
+--   check-symbols n k w the symbols for the first k positions that make k syndromes zero, given w's symbols from
+--                       position k on
 --   systematic n k w    w with its check symbols in place
 use Prim.Native.Nat.{ℕ, _+_, _*_, _<_}
 use mathlib.Core.Path.{_≡_}

@@ -3,7 +3,8 @@
 --   Result            a block with its report, or a refusal
 --   concluded p x     the result of an outcome of staged decoding
 --   reading b y o     the result for the bytes b of a profile, an input y and an output of o bytes
---   answer-to r       what is answered; block-of r o: what the output holds in the end, o being what it held; report-of r: what is reported
+--   answer-to r       what is answered; block-of r o: what the output holds in the end, o being what it held; report-of
+--                     r: what is reported
 --   Gives f r o e a   that is what the reading a gives for the result r, the output being o before and e in the end
 use Prim.Native.Nat.{ℕ}
 use mathlib.Core.Path.{_≡_}

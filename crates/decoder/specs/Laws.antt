@@ -1,16 +1,14 @@
 -- From the code to the definition.
 --
--- Proved: a copy goes on byte by byte (copied-more), and may stand for what was copied (fits-same, reached-same); where every subword is settled each is
--- in the code of t0 (reached-subwords); a refusal, a codeword and each end of decoding give what the definition says (gives-refused; gives-kept; gives-unsettled,
--- gives-foreign, gives-read), and so does a result by another name (gives-as).
-use Prim.Native.Nat.{ℕ, _+_, _<_}
-use mathlib.Core.Path.{_≡_, refl, sym, ap, _∙_, subst}
+-- Proved: a copy may stand for what was copied (fits-same, reached-same); where every subword is settled each is in the
+-- code of t0 (reached-subwords); a refusal, a codeword and each end of decoding give what the definition says
+-- (gives-refused; gives-kept; gives-unsettled, gives-foreign, gives-read), and so does a result by another name
+-- (gives-as).
+use Prim.Native.Nat.{ℕ, _<_}
+use mathlib.Core.Path.{_≡_, sym, ap, _∙_, subst}
 use mathlib.Core.Bool.{true, false, decide-iff}
 use mathlib.Core.List.{List}
-use native.Mathlib.Decide.{ℕ-discrete}
-use native.Mathlib.Omega.{arith}
-use lib.ListN.{length, getD, set}
-use lib.Seq.{getD-set-same, getD-set-other}
+use lib.ListN.{length, getD}
 use Rattle.series.specs.Series.{Series}
 use Rattle.series.specs.Array.{bytes, word-bytes}
 use Rattle.series.specs.Decide.{holds}
@@ -36,35 +34,33 @@ use Rattle.decoder.specs.Definition.{Result, concluded, refused, Gives}
 
 -- ---- copies
 
-pub copied-more : (to from : List ℕ) (i : ℕ) → i < length to → ((k : ℕ) → k < i → getD to k 0 ≡ getD from k 0)
-    → (k : ℕ) → k < i + 1 → getD (set to i (getD from i 0)) k 0 ≡ getD from k 0
-copied-more to from i h before k l = go (ℕ-discrete k i)
-  where
-    go : Dec (k ≡ i) → getD (set to i (getD from i 0)) k 0 ≡ getD from k 0
-    go (yes e) = rw e (getD-set-same to i (getD from i 0) 0 h)
-    go (no n) = getD-set-other to i k (getD from i 0) 0 n ∙ before k (omega (arith, n))
-
 pub fits-same : {p : Profile} {a b : List ℕ} → a ≡ b → Fits p b → Fits p a
 fits-same {p} e = subst (Fits p) (sym e)
 
-pub reached-same : {p : Profile} {f : Form} {a b : List ℕ} {z : Series} {e : Ending} → a ≡ b → Reached p f (bytes a) z e → Reached p f (bytes b) z e
+pub reached-same : {p : Profile} {f : Form} {a b : List ℕ} {z : Series} {e : Ending} → a ≡ b → Reached p f (bytes a) z e
+    → Reached p f (bytes b) z e
 reached-same {p} {f} {z = z} {e = e} same = subst (λ l. Reached p f (bytes l) z e) same
 
 -- where every subword is settled each is in the code of t0
-pub reached-subwords : (p : Profile) (f : Form) (y b : Series) (e : Ending) → Valid p → Reached p f y b e → e .settled ≡ true → Subwords p b
-reached-subwords p f y b e ok r h = let (g, is, block, _) = r .0 h in subst (Subwords p) block (settled-subwords p ok y (e .stage) g is)
+pub reached-subwords : (p : Profile) (f : Form) (y b : Series) (e : Ending)
+    → Valid p → Reached p f y b e → e .settled ≡ true → Subwords p b
+reached-subwords p f y b e ok r h =
+    let (g, is, block, _) = r .0 h in
+    subst (Subwords p) block (settled-subwords p ok y (e .stage) g is)
 
 -- ---- ends
 
 pub gives-as : (f : Form) (r q : Result) (o e : List ℕ) (a : Reading) → r ≡ q → Gives f q o e a → Gives f r o e a
 gives-as f r q o e a same = subst (λ r. Gives f r o e a) (sym same)
 
-pub gives-refused : (f : Form) (q : Refusal) (o e : List ℕ) (a : Reading) → a .answer ≡ answer.Refused q → e ≡ o → Tells f untouched (a .report)
+pub gives-refused : (f : Form) (q : Refusal) (o e : List ℕ) (a : Reading) → a .answer ≡ answer.Refused q → e ≡ o
+    → Tells f untouched (a .report)
     → Gives f (refused q) o e a
 gives-refused f q o e a says same tells = record { answer = says; block = same; report = tells }
 
 -- a codeword is not decoded
-pub gives-kept : (p : Profile) (f : Form) (b o c : List ℕ) (a : Reading) → Valid p → length b ≡ block-size p → ((i : ℕ) → getD b i 0 < 256)
+pub gives-kept : (p : Profile) (f : Form) (b o c : List ℕ) (a : Reading) → Valid p → length b ≡ block-size p
+    → ((i : ℕ) → getD b i 0 < 256)
     → holds (codeword? p (bytes b)) ≡ true → c ≡ b → a .answer ≡ answer.Accepted → Tells f untouched (a .report)
     → Gives f (concluded p (decode p (bytes b))) o c a
 gives-kept p f b o c a ok long small code copied says tells =
@@ -80,17 +76,22 @@ module _ (p : Profile) (f : Form) (y b : Series) (e : Ending) (r : Reached p f y
   unfolding decode
   foreign-is h wrong = let (g, is, block, _) = r .0 h in rw (is, block, wrong)
 
-  pub gives-unsettled : (o c : List ℕ) (a : Reading) → e .settled ≡ false → a .answer ≡ answer.Refused (Unsettled (e .stage)) → c ≡ o
+  pub gives-unsettled : (o c : List ℕ) (a : Reading)
+      → e .settled ≡ false → a .answer ≡ answer.Refused (Unsettled (e .stage)) → c ≡ o
       → Tells f untouched (a .report) → Gives f (concluded p (decode p y)) o c a
   gives-unsettled o c a h says same tells = rw (unsettled-is h) (gives-refused f _ o c a says same tells)
 
-  pub gives-foreign : (o c : List ℕ) (a : Reading) → e .settled ≡ true → holds (codeword? p b) ≡ false → a .answer ≡ answer.Refused NotCodeword → c ≡ o
+  pub gives-foreign : (o c : List ℕ) (a : Reading)
+      → e .settled ≡ true → holds (codeword? p b) ≡ false → a .answer ≡ answer.Refused NotCodeword → c ≡ o
       → Tells f untouched (a .report) → Gives f (concluded p (decode p y)) o c a
   gives-foreign o c a h wrong says same tells = rw (foreign-is h wrong) (gives-refused f _ o c a says same tells)
 
-pub gives-read : (p : Profile) (f : Form) (y : Series) (b o c : List ℕ) (e : Ending) (a : Reading) → c ≡ b → length b ≡ block-size p → ((i : ℕ) → getD b i 0 < 256)
-    → Reached p f y (bytes b) e → e .settled ≡ true → holds (codeword? p (bytes b)) ≡ true → a .answer ≡ answer.Accepted → a .report .lines ≡ e .lines
-    → a .report .changed ≡ total (p .subwords) (λ i. count-of (says (e .lines) i)) → a .report .last ≡ e .stage → Gives f (concluded p (decode p y)) o c a
+pub gives-read : (p : Profile) (f : Form) (y : Series) (b o c : List ℕ) (e : Ending) (a : Reading)
+    → c ≡ b → length b ≡ block-size p → ((i : ℕ) → getD b i 0 < 256)
+    → Reached p f y (bytes b) e → e .settled ≡ true → holds (codeword? p (bytes b)) ≡ true → a .answer ≡ answer.Accepted
+    → a .report .lines ≡ e .lines
+    → a .report .changed ≡ total (p .subwords) (λ i. count-of (says (e .lines) i)) → a .report .last ≡ e .stage
+    → Gives f (concluded p (decode p y)) o c a
 unfolding decode report
 gives-read p f y b o c e a copied long small r h code says lines changed last =
     let (g, is, block, shows) = r .0 h in

@@ -1,14 +1,16 @@
--- What the promises of `decode` come to. `reading b y o` is the result for the profile bytes b, the input y and an output of o bytes; what is answered,
--- written and reported for it is what `decode` promises.
+-- What the promises of `decode` come to. `reading b y o` is the result for the profile bytes b, the input y and an
+-- output of o bytes; what is answered, written and reported for it is what `decode` promises.
 --
 --   Judged b p n      the bytes b are an accepted profile p whose blocks have n bytes
 --   Accepts b y o     the reading is accepted: of which profile, with which block and report
---   Alike f g e k a c  the readings a and c end alike, but for the solvers, which stand at the end of the same rounds in each form
+--   Alike f g e k a c  the readings a and c end alike, but for the solvers, which stand at the end of the same rounds
+--                     in each form
 --
--- Proved: an accepted block is a codeword, always (read-accepts, read-codeword); a block with right sizes is decoded as staged decoding says (reading-is); a written
--- block is restored under the condition of FORMAT 6.11 (read-restores), and one that was not touched always (read-written); the answer is 8 exactly if
--- decoding fails (read-fails), where no mistake is made exactly if too many subwords have too many changes (read-fails-exactly). Two readings of the
--- same bytes that differ in the form alone end alike (alike).
+-- Proved: an accepted block is a codeword, always (read-accepts, read-codeword); a block with right sizes is decoded as
+-- staged decoding says (reading-is); a written block is restored under the condition of FORMAT 6.11 (read-restores),
+-- and one that was not touched always (read-written); the answer is 8 exactly if decoding fails (read-fails), where no
+-- mistake is made exactly if too many subwords have too many changes (read-fails-exactly). Two readings of the same
+-- bytes that differ in the form alone end alike (alike).
 use Prim.Native.Nat.{ℕ, _<_}
 use mathlib.Core.Path.{_≡_, refl, sym, ap, _∙_}
 use mathlib.Core.Logic.{_↔_}
@@ -45,7 +47,8 @@ use Rattle.staged_decoding.specs.Clean.{untouched, decode-codeword}
 use Rattle.stages.specs.declared.report.Line.{Line}
 use Rattle.stages.specs.Report.{says, Has}
 use Rattle.decoder.specs.declared.prepared.Reading.{Reading}
-use Rattle.decoder.specs.Definition.{Result, read, concluded, judged, reading, answer-to, block-of, report-of, Gives}
+use Rattle.decoder.specs.Definition.{Result, read, concluded, judged, reading}
+use Rattle.decoder.specs.Definition.{answer-to, block-of, report-of, Gives}
 
 -- ---- accepted profiles
 
@@ -57,7 +60,8 @@ pub record Judged (b : List ℕ) (p : Profile) (n : ℕ) : Type 0 where
 judged-valid : (b : List ℕ) (p : Profile) (n : ℕ) → Judged b p n → Valid p
 judged-valid b p n j = admitted-valid Card b 0 0 0 p (j .profile) (omega (arith, j .small 2))
 
-pub reading-is : (b : List ℕ) (p : Profile) (y : List ℕ) (o : ℕ) → Judged b p (length y) → o ≡ length y → reading b y o ≡ concluded p (decode p (bytes y))
+pub reading-is : (b : List ℕ) (p : Profile) (y : List ℕ) (o : ℕ) → Judged b p (length y) → o ≡ length y
+    → reading b y o ≡ concluded p (decode p (bytes y))
 reading-is b p y o j e = ap (λ a. judged a y) (reading-admitted b (length y) o p (j .profile) (j .size) (e ∙ j .size))
 
 -- ---- accepted blocks
@@ -74,7 +78,8 @@ pub record Accepts (b y : List ℕ) (o : ℕ) : Type 0 where
 pub read-accepts : (b y : List ℕ) (o : ℕ) → answer-to (reading b y o) ≡ answer.Accepted → Accepts b y o
 read-accepts b y o e = go (reading-of b (length y) o) refl e
   where
-    outcome : (p : Profile) → reading-of b (length y) o ≡ Accepted p → (z : Outcome) → decode p (bytes y) ≡ z → answer-to (concluded p z) ≡ answer.Accepted
+    outcome : (p : Profile) → reading-of b (length y) o ≡ Accepted p → (z : Outcome) → decode p (bytes y) ≡ z
+        → answer-to (concluded p z) ≡ answer.Accepted
         → Accepts b y o
     outcome p q (accepted s x) d e = record {
       p = p;
@@ -103,12 +108,14 @@ read-codeword b y o e =
     let a = read-accepts b y (length o) e in
     let n = block-size (a .p) in
     let same = agree-block (a .p) 0 (a .block) (cut n (a .block)) (λ k _ l. sym (cut-low n (a .block) k l)) in
-    let code = codeword-cong (a .p) (a .block) (cut n (a .block)) same (accepted-codeword (a .p) (bytes y) (a .block) (a .report) (a .decoded)) in
+    let code = codeword-cong (a .p) (a .block) (cut n (a .block)) same
+    (accepted-codeword (a .p) (bytes y) (a .block) (a .report) (a .decoded)) in
     (a .p, a .profile, rw (a .is, block-is (a .p) (a .block)) code)
 
 -- ---- restoring
 
-module _ (b : List ℕ) (p : Profile) (c y o : List ℕ) (j : Judged b p (length y)) (same : length c ≡ length y) (room : length o ≡ length y)
+module _ (b : List ℕ) (p : Profile) (c y o : List ℕ) (j : Judged b p (length y)) (same : length c ≡ length y)
+    (room : length o ≡ length y)
     (small : (i : ℕ) → getD c i 0 < 256) where
   -- c was written and y is read
   pub read-restores : Restorable p (bytes c) (bytes y)
@@ -118,9 +125,11 @@ module _ (b : List ℕ) (p : Profile) (c y o : List ℕ) (j : Judged b p (length
       let (x, e, f) = restoring-bytes p (judged-valid b p (length y) j) c y (same ∙ j .size) (j .size) r in
       rw (reading-is b p y (length o) j room, e) (refl, word-bytes (block-size p) c (same ∙ j .size) small, f)
 
-pub read-written : (b : List ℕ) (p : Profile) (c o : List ℕ) → Judged b p (length c) → length o ≡ length c → ((i : ℕ) → getD c i 0 < 256)
+pub read-written : (b : List ℕ) (p : Profile) (c o : List ℕ) → Judged b p (length c) → length o ≡ length c
+    → ((i : ℕ) → getD c i 0 < 256)
     → Codeword p (bytes c)
-    → (answer-to (reading b c (length o)) ≡ answer.Accepted) × (block-of (reading b c (length o)) o ≡ c) × (report-of (reading b c (length o)) ≡ untouched)
+    → (answer-to (reading b c (length o)) ≡ answer.Accepted) × (block-of (reading b c (length o)) o ≡ c)
+    × (report-of (reading b c (length o)) ≡ untouched)
 read-written b p c o j room small code =
     rw (reading-is b p c (length o) j room, decode-codeword p (judged-valid b p (length c) j) (bytes c) code)
     (refl, word-bytes (block-size p) c (j .size) small, refl)
@@ -143,7 +152,8 @@ module _ (b : List ℕ) (p : Profile) (y : List ℕ) (o : ℕ) (j : Judged b p (
       to foreign e = let z : _≡_ {A = ℕ} 0 1 = cc in absurd (omega arith)
 
   -- c was written
-  pub read-fails-exactly : (c : Series) → Unmistaken p c (bytes y) → answer-to (reading b y o) ≡ answer.Refused (Unsettled s) ↔ TooMany p c (bytes y) s
+  pub read-fails-exactly : (c : Series) → Unmistaken p c (bytes y)
+      → answer-to (reading b y o) ≡ answer.Refused (Unsettled s) ↔ TooMany p c (bytes y) s
   read-fails-exactly c u =
       let exact = failing-exactly p (judged-valid b p (length y) j) c (bytes y) u s in
       let course = failed-course p (bytes y) s in
@@ -162,7 +172,8 @@ pub record Alike (f g : Form) (e k : List ℕ) (a c : Reading) : Type 0 where
       → (rounds : List (List F)) × Ended f rounds (l .solver) × Ended g rounds (m .solver)
 
 -- the promises of `decode` are the fields of Gives, r being `reading` of what is lent
-pub alike : (f g : Form) (r : Result) (o e k : List ℕ) (a c : Reading) → Gives f r o e a → Gives g r o k c → Alike f g e k a c
+pub alike : (f g : Form) (r : Result) (o e k : List ℕ) (a c : Reading)
+    → Gives f r o e a → Gives g r o k c → Alike f g e k a c
 alike f g r o e k a c x y = record {
   answer = x .answer ∙ sym (y .answer);
   block = x .block ∙ sym (y .block);

@@ -1,4 +1,5 @@
-// Reading a block: the questions, then the block with its report, or a refusal. What the promises speak of stands in specs/Definition.antt.
+// Reading a block: the questions, then the block with its report, or a refusal. What the promises speak of stands in
+// specs/Definition.antt.
 pub mod prepared;
 
 ghost use mathlib.Core.Path.{_≡_};
@@ -17,7 +18,8 @@ use solver::Form;
 // Makes the tables of an accepted profile, and reads a block by them.
 fn read(p: Profile, form: Form, input: &[u8], out: &mut [u8]) -> Reading
     requires { ⌜ Fits p (now input) × (length (now out) ≡ length (now input)) ⌝ }
-    ensures { λ r. ⌜ Gives form (concluded p (Decode p (bytes (now (input .entry))))) (now (out .entry)) (now (out .exit)) r ⌝ }
+    ensures { λ r. ⌜ Gives form (concluded p (Decode p (bytes (now (input .entry)))))
+        (now (out .entry)) (now (out .exit)) r ⌝ }
 {
     let mut t = divider::generator::blank();
     let mut u = divider::generator::blank();
@@ -29,10 +31,10 @@ fn read(p: Profile, form: Form, input: &[u8], out: &mut [u8]) -> Reading
 pub fn decode(profile: &[u8], input: &[u8], out: &mut [u8], form: Form) -> Reading
     ensures answer { λ r. ⌜ r .answer ≡
         answer-to (reading (now (profile .entry)) (now (input .entry)) (length (now (out .entry)))) ⌝ }
-    ensures block { λ _. ⌜ now (out .exit) ≡
-        block-of (reading (now (profile .entry)) (now (input .entry)) (length (now (out .entry)))) (now (out .entry)) ⌝ }
-    ensures report { λ r. ⌜
-        Tells form (report-of (reading (now (profile .entry)) (now (input .entry)) (length (now (out .entry))))) (r .report) ⌝ }
+    ensures block { λ _. ⌜ now (out .exit) ≡ block-of (reading (now (profile .entry)) (now (input .entry))
+        (length (now (out .entry)))) (now (out .entry)) ⌝ }
+    ensures report { λ r. ⌜ Tells form
+        (report-of (reading (now (profile .entry)) (now (input .entry)) (length (now (out .entry))))) (r .report) ⌝ }
 {
     match profile::questions::admit(Caller::Decoder, profile, input.len(), out.len(), 0) {
         Parsed::Accepted(p) => read(p, form, input, out),

@@ -1,5 +1,6 @@
-// Reading a block of an accepted profile: staged decoding, the block with its report, or a refusal. What the promises speak of stands in specs/PreparedDefinition.antt.
-ghost use Prim.Native.Nat.{_*_, _≤_};
+// Reading a block of an accepted profile: staged decoding, the block with its report, or a refusal. What the promises
+// speak of stands in specs/PreparedDefinition.antt.
+ghost use Prim.Native.Nat.{_*_};
 ghost use mathlib.Core.Path.{_≡_};
 ghost use mathlib.Core.Bool.{true};
 ghost use lib.ListN.{length};
@@ -51,21 +52,10 @@ fn blank() -> [u8; SYMBOLS] {
     [0u8; SYMBOLS]
 }
 
-// Copies a block.
-fn copy(from: &[u8], to: &mut [u8])
-    requires { ⌜ length (now to) ≡ length (now from) ⌝ }
-    ensures { λ _. ⌜ now (to .exit) ≡ now (from .entry) ⌝ }
-{
-    let mut i: usize = 0;
-    while i < from.len() {
-        to[i] = from[i];
-        i = i + 1;
-    }
-}
-
 // What is answered where decoding ended: the block goes out if every subword is settled and it is a codeword.
 fn conclude(p: Profile, form: Form, u: &[u64], e: Ending, block: &[u8], out: &mut [u8]) -> Reading
-    requires { ⌜ Fits p (now block) × (length (now out) ≡ length (now block)) × Further p (now u) × (e .settled ≡ true → Subwords p (bytes (now block))) ⌝ }
+    requires { ⌜ Fits p (now block) × (length (now out) ≡ length (now block)) × Further p (now u)
+        × (e .settled ≡ true → Subwords p (bytes (now block))) ⌝ }
     ensures { λ r. ⌜ ((y : Series) → Reached p form y (bytes (now (block .entry))) e
         → Gives form (concluded p (Decode p y)) (now (out .entry)) (now (out .exit)) r) ⌝ }
 {
@@ -75,7 +65,7 @@ fn conclude(p: Profile, form: Form, u: &[u64], e: Ending, block: &[u8], out: &mu
     if !block::codeword::is_codeword(p, u, block) {
         return refuse(Refusal::NotCodeword, form, out);
     }
-    copy(block, out);
+    kernel::copy(block, out);
     let lines = e.lines;
     Reading {
         answer: Answer::Accepted,
@@ -97,23 +87,26 @@ fn decode_copy(
     block: &mut [u8],
     out: &mut [u8],
 ) -> Reading
-    requires { ⌜ Fits p (now input) × (length (now block) ≡ length (now input)) × (length (now out) ≡ length (now input)) × Further p (now u)
-        × (table syndromes ≡ received p (bytes (now input)) (2 * p .t0)) ⌝ }
-    ensures { λ r. ⌜ Gives form (concluded p (Decode p (bytes (now (input .entry))))) (now (out .entry)) (now (out .exit)) r ⌝ }
+    requires { ⌜ Fits p (now input) × (length (now block) ≡ length (now input)) × (length (now out) ≡
+        length (now input)) × Further p (now u) × (table syndromes ≡ received p (bytes (now input)) (2 * p .t0)) ⌝ }
+    ensures { λ r. ⌜ Gives form (concluded p (Decode p (bytes (now (input .entry)))))
+        (now (out .entry)) (now (out .exit)) r ⌝ }
 {
-    copy(input, block);
+    kernel::copy(input, block);
     let e = stages::run(p, form, u, syndromes, block);
     conclude(p, form, u, e, block, out)
 }
 
-// Reads a block of an accepted profile, by its tables. A codeword goes out as it came, and no stage is entered; for any other block room for a copy is made.
+// Reads a block of an accepted profile, by its tables. A codeword goes out as it came, and no stage is entered; for any
+// other block room for a copy is made.
 pub fn read(p: Profile, form: Form, t: &[u64], u: &[u64], input: &[u8], out: &mut [u8]) -> Reading
     requires { ⌜ Fits p (now input) × (length (now out) ≡ length (now input)) × Tables p (now t) (now u) ⌝ }
-    ensures { λ r. ⌜ Gives form (concluded p (Decode p (bytes (now (input .entry))))) (now (out .entry)) (now (out .exit)) r ⌝ }
+    ensures { λ r. ⌜ Gives form (concluded p (Decode p (bytes (now (input .entry)))))
+        (now (out .entry)) (now (out .exit)) r ⌝ }
 {
     let syndromes = block::received::syndromes(p, t, input);
     if block::codeword::is_clean(p, u, syndromes, input) {
-        copy(input, out);
+        kernel::copy(input, out);
         return Reading {
             answer: Answer::Accepted,
             report: stages::report::empty(form),

@@ -3,9 +3,9 @@
 --   Leaves row t p l r       r is the remainder, by the polynomial of the table t, of the symbols of l from p on
 --   Leaving row t from l p r   the same on the way down: p is not below `from`, nor above the symbols of l
 --
--- Proved: one symbol up, and the row that the last symbol and the one fed in ask for, is `feed` (feeds). A loop from the
--- last symbol down keeps `Leaving`, whatever the width of the rows: it begins by leaving-none, goes on by leaving-more,
--- and ends by leaving-all.
+-- Proved: one symbol up, and the row that the last symbol and the one fed in ask for, is `feed` (feeds). A loop from
+-- the last symbol down keeps `Leaving`, whatever the width of the rows: it begins by leaving-none, goes on by
+-- leaving-more, and ends by leaving-all.
 use Prim.Native.Nat.{ℕ, _-_, _≤_, _<_}
 use mathlib.Core.Path.{_≡_, ap, _∙_}
 use mathlib.Core.List.{List}
@@ -23,7 +23,8 @@ use Rattle.divider.specs.DivisionRemainder.{feed, remainder, remainder-s
 abbrev pub Leaves : Rows → List ℕ → ℕ → List ℕ → Packed → Type 0
 Leaves row t p l r = packed r ≡ remainder (lower row t) (length l - p) (drop p (bytes l))
 
-pub feeds : (row : Rows) (t : List ℕ) (r m q : Series) (x i : ℕ) → Multiples row t → (of i ≡ r 47 ⊕ of x) × (i < 256) → m ≡ row t i
+pub feeds : (row : Rows) (t : List ℕ) (r m q : Series) (x i : ℕ)
+    → Multiples row t → (of i ≡ r 47 ⊕ of x) × (i < 256) → m ≡ row t i
     → q ≡ Z ⊠ r ⊞ K (r 47) ⊠ zpow 48 ⊞ m → q ≡ feed (lower row t) r (of x)
 unfolding feed
 feeds row t r m q x i p (e, h) s o =

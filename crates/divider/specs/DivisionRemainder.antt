@@ -3,9 +3,10 @@
 --   feed low r x          what z·r + x·z^48 leaves by z^48 + low, for r below 48
 --   remainder low n w     what z^48·(w 0 + w 1·z + .. + w (n - 1)·z^(n - 1)) leaves by z^48 + low
 --
--- Proved: a loop over an array's symbols, the last first, begins by remainder-start and goes on by remainder-step. The remainder has degree below 48
--- and, at every root of z^48 + low, the value of what it is the remainder of (remainder-value). A polynomial of lower degree k stands at the top,
--- times z^(48 - k): so does the remainder by it (remainder-top).
+-- Proved: a loop over an array's symbols, the last first, begins by remainder-start and goes on by remainder-step. The
+-- remainder has degree below 48 and, at every root of z^48 + low, the value of what it is the remainder of
+-- (remainder-value). A polynomial of lower degree k stands at the top, times z^(48 - k): so does the remainder by it
+-- (remainder-top).
 use Prim.Native.Nat.{ℕ, zero, suc, _+_, _-_, _≤_, _<_}
 use mathlib.Core.Path.{_≡_, refl, sym, ap, ap₂, _∙_}
 use mathlib.Core.Logic.{_≢_}
@@ -14,10 +15,13 @@ use native.Mathlib.Omega.{arith}
 use lib.ListN.{length, getD}
 use Rattle.field.specs.Field.{F, 𝟎, _⊕_, _⊙_, of, zero-⊕, ⊙-zero, ⊙-assoc, ⊙-cancel, ⊙-ring, pow, pow-add, pow-nonzero}
 use Rattle.series.specs.Series.{Series, O, K, Z, _⊞_, _⊠_, tail, ⊠-ring, O-at, ⊞-at, K-⊠-at, Z-⊠-at0, Z-⊠-at}
-use Rattle.series.specs.Shift.{zpow, drop, cut, zpow-suc, zpow-low, zpow-other, zpow-divide, drop-at0, drop-suc, drop-zpow, cut-suc}
-use Rattle.series.specs.Degree.{below, below-O, below-⊞, below-⊠, below-K-⊠, below-Z-⊠, below-cut, below-cut-eq, below-zpow}
+use Rattle.series.specs.Shift.{zpow, drop, cut, zpow-suc, zpow-low, zpow-other, zpow-divide}
+use Rattle.series.specs.Shift.{drop-at0, drop-suc, drop-zpow, cut-suc}
+use Rattle.series.specs.Degree.{below, below-O, below-⊞, below-⊠, below-K-⊠, below-Z-⊠}
+use Rattle.series.specs.Degree.{below-cut, below-cut-eq, below-zpow}
 use Rattle.series.specs.Array.{bytes, read-at}
-use Rattle.series.specs.Value.{value, value-none, value-head, value-more, value-zero, value-split, value-⊞, value-K-⊠, value-Z-⊠, value-zpow}
+use Rattle.series.specs.Value.{value, value-none, value-head, value-more, value-zero, value-split, value-⊞}
+use Rattle.series.specs.Value.{value-K-⊠, value-Z-⊠, value-zpow}
 
 unfoldable pub feed : Series → Series → F → Series
 feed low r x = Z ⊠ r ⊞ K (r 47) ⊠ zpow 48 ⊞ K (r 47 ⊕ x) ⊠ low
@@ -41,7 +45,8 @@ remainder-more low n w (suc p) h l =
     rw (e, k, drop-at0, drop-suc)
 
 -- the same of the symbols of an array: how a loop that goes down from the last one begins and goes on
-pub remainder-start : (low : Series) (l : List ℕ) (p : ℕ) (r : Series) → length l ≡ p → r ≡ O → r ≡ remainder low (length l - p) (drop p (bytes l))
+pub remainder-start : (low : Series) (l : List ℕ) (p : ℕ) (r : Series) → length l ≡ p → r ≡ O
+    → r ≡ remainder low (length l - p) (drop p (bytes l))
 remainder-start low l p r h z = let e : length l - p ≡ 0 = omega arith in z ∙ sym (rw e (remainder-none low _))
 
 pub remainder-step : (low : Series) (l : List ℕ) (p : ℕ) (r q : Series) → 0 < p → p ≤ length l
@@ -87,7 +92,8 @@ feed-value low r x a l b e = sym (value-more 48 49 (feed low r x) a (below-feed 
 pub remainder-value : (low : Series) (n : ℕ) (w : Series) (a : F) → below 48 low → value 48 low a ≡ pow a 48
     → value 48 (remainder low n w) a ≡ pow a 48 ⊙ value n w a
 unfolding remainder
-remainder-value low zero w a l e = value-zero 48 O a (λ i h. O-at i) ∙ sym (ap (λ (s : F). pow a 48 ⊙ s) (value-none w a) ∙ ⊙-zero _)
+remainder-value low zero w a l e = value-zero 48 O a (λ i h. O-at i)
+    ∙ sym (ap (λ (s : F). pow a 48 ⊙ s) (value-none w a) ∙ ⊙-zero _)
 remainder-value low (suc n) w a l e =
     feed-value low _ (w 0) a l (below-remainder low n (tail w) l) e
     ∙ rw (remainder-value low n (tail w) a l e, value-head n w a) (simp ⊙-ring)
@@ -104,7 +110,8 @@ feed-zeros s low r x b l z i h =
     up zero h = Z-⊠-at0 r
     up (suc i) h = Z-⊠-at r i ∙ z i (omega arith)
 
-remainder-zeros : (s : ℕ) (low : Series) (n : ℕ) (w : Series) → s ≤ 48 → ((i : ℕ) → i < s → low i ≡ 𝟎) → (i : ℕ) → i < s → remainder low n w i ≡ 𝟎
+remainder-zeros : (s : ℕ) (low : Series) (n : ℕ) (w : Series) → s ≤ 48 → ((i : ℕ) → i < s → low i ≡ 𝟎) → (i : ℕ) → i < s
+    → remainder low n w i ≡ 𝟎
 unfolding remainder
 remainder-zeros s low zero w b l i h = O-at i
 remainder-zeros s low (suc n) w b l i h = feed-zeros s low _ (w 0) b l (remainder-zeros s low n (tail w) b l) i h
@@ -125,7 +132,8 @@ pow-top k a h =
 below-top : (k : ℕ) (g : Series) → k ≤ 48 → below k g → below 48 (zpow (48 - k) ⊠ g)
 below-top k g h b = below-⊠ (suc (48 - k)) k 48 (zpow (48 - k)) g (below-zpow (48 - k)) b (omega arith)
 
-pub remainder-top : (k : ℕ) (g low : Series) (n : ℕ) (w : Series) (a : F) → k ≤ 48 → low ≡ zpow (48 - k) ⊠ g → below k g → a ≢ 𝟎
+pub remainder-top : (k : ℕ) (g low : Series) (n : ℕ) (w : Series) (a : F)
+    → k ≤ 48 → low ≡ zpow (48 - k) ⊠ g → below k g → a ≢ 𝟎
     → value k g a ≡ pow a k → value k (drop (48 - k) (remainder low n w)) a ≡ pow a k ⊙ value n w a
 remainder-top k g low n w a h q b z e =
     ⊙-cancel (pow a (48 - k)) (pow-nonzero a (48 - k) z)
@@ -141,4 +149,5 @@ remainder-top k g low n w a h q b z e =
     zeros = remainder-zeros (48 - k) low n w (omega arith) (λ i l. ap (λ (f : Series). f i) q ∙ zpow-low (48 - k) g i l)
 
     whole : value 48 low a ≡ pow a 48
-    whole = ap (λ (f : Series). value 48 f a) q ∙ value-top k g a h ∙ ap (λ (s : F). pow a (48 - k) ⊙ s) e ∙ sym (pow-top k a h)
+    whole = ap (λ (f : Series). value 48 f a) q ∙ value-top k g a h
+        ∙ ap (λ (s : F). pow a (48 - k) ⊙ s) e ∙ sym (pow-top k a h)

@@ -2,8 +2,8 @@
 --
 --   Bits l i bits   what the bits of the first i entries of the array l, taken together, tell
 --
--- Proved: a loop that gathers the bits begins by bits-none and goes on by bits-more; entries that are zero make a word of zeros (all-zero), and its
--- syndromes are zero (zero-syndromes).
+-- Proved: a loop that gathers the bits begins by bits-none and goes on by bits-more; entries that are zero make a word
+-- of zeros (all-zero), and its syndromes are zero (zero-syndromes).
 use Prim.Native.Nat.{ℕ, _+_, _≤_, _<_}
 use mathlib.Core.Path.{_≡_, refl, sym, ap, ap₂, _∙_, fun-ext}
 use mathlib.Core.Logic.{_≢_, by-cases}
@@ -22,7 +22,8 @@ use Rattle.code.specs.Word.{root, syndrome}
 use Rattle.code.specs.Systematic.{syndrome-is}
 
 pub all-zero : (l : List ℕ) → ((j : ℕ) → j < length l → getD l j 0 ≡ 0) → bytes l ≡ O
-all-zero l h = fun-ext (λ j. by-cases (decLt j (length l)) (entry j) (λ k. below-read of 0 of-zero l j (omega arith)) ∙ sym (O-at j))
+all-zero l h = fun-ext (λ j.
+    by-cases (decLt j (length l)) (entry j) (λ k. below-read of 0 of-zero l j (omega arith)) ∙ sym (O-at j))
   where
     entry : (j : ℕ) → j < length l → bytes l j ≡ 𝟎
     entry j k = read-at of 0 l j ∙ ap of (h j k) ∙ of-zero

@@ -30,10 +30,12 @@ rest-none : (first : ℕ) → rest first 0 ≡ O
 unfolding rest generator
 rest-none first = rw zpow-zero (⊞-self (K 𝟏))
 
-rest-more : (first k : ℕ) → rest first (suc k) ≡ (Z ⊞ K (root (first + k))) ⊠ rest first k ⊞ K (root (first + k)) ⊠ zpow k
+rest-more : (first k : ℕ)
+    → rest first (suc k) ≡ (Z ⊞ K (root (first + k))) ⊠ rest first k ⊞ K (root (first + k)) ⊠ zpow k
 unfolding rest generator
 rest-more first k =
-    ap (λ (f : Series). (Z ⊞ K (root (first + k))) ⊠ generator first k ⊞ f) (zpow-suc k) ∙ shape (K (root (first + k))) (generator first k) (zpow k)
+    ap (λ (f : Series). (Z ⊞ K (root (first + k))) ⊠ generator first k ⊞ f) (zpow-suc k)
+    ∙ shape (K (root (first + k))) (generator first k) (zpow k)
   where
     shape : (a g p : Series) → (Z ⊞ a) ⊠ g ⊞ Z ⊠ p ≡ (Z ⊞ a) ⊠ (g ⊞ p) ⊞ a ⊠ p
     shape a g p = simp ⊠-ring
@@ -59,7 +61,8 @@ value-factor a x = rw (value-⊞, value-K) (ap (λ (s : F). s ⊕ a) one)
 below-generator : (first k : ℕ) → below (suc k) (generator first k)
 unfolding generator
 below-generator first zero = below-K 𝟏
-below-generator first (suc k) = below-⊠ 2 (suc k) (suc (suc k)) _ _ (below-factor (root (first + k))) (below-generator first k) (omega arith)
+below-generator first (suc k) =
+    below-⊠ 2 (suc k) (suc (suc k)) _ _ (below-factor (root (first + k))) (below-generator first k) (omega arith)
 
 generator-value : (first k j : ℕ) → j < k → value (suc k) (generator first k) (root (first + j)) ≡ 𝟎
 unfolding generator
@@ -72,8 +75,10 @@ generator-value first (suc k) j h =
     x : F
     x = root (first + j)
 
-    go : (j < k → value (suc k) (generator first k) x ≡ 𝟎) → Dec (j ≡ k) → (x ⊕ root (first + k)) ⊙ value (suc k) (generator first k) x ≡ 𝟎
-    go ih (yes e) = ap (λ (s : F). s ⊙ value (suc k) (generator first k) x) (ap (λ (i : ℕ). x ⊕ root (first + i)) (sym e) ∙ ⊕-self x) ∙ zero-⊙ _
+    go : (j < k → value (suc k) (generator first k) x ≡ 𝟎) → Dec (j ≡ k)
+        → (x ⊕ root (first + k)) ⊙ value (suc k) (generator first k) x ≡ 𝟎
+    go ih (yes e) = ap (λ (s : F). s ⊙ value (suc k) (generator first k) x)
+        (ap (λ (i : ℕ). x ⊕ root (first + i)) (sym e) ∙ ⊕-self x) ∙ zero-⊙ _
     go ih (no e) = rw (ih (omega arith)) (⊙-zero _)
 
 pub rest-value : (first k j : ℕ) → j < k → value k (rest first k) (root (first + j)) ≡ pow (root (first + j)) k

@@ -3,9 +3,10 @@
 --   stretch f   the polynomial f with αz for z
 --   Zech l      entry i of the array l, i below 48, is the exponent of α^(i+1) + 1: Zech's logarithms
 --
--- Proved: the generator of k + 1 roots, stretched, is that of k roots times z + α^first and a constant (stretched), since the roots are consecutive powers of α.
--- So a coefficient is known from the one above it (coefficient-below), its exponent from that one's (exponent-more). A loop that stores the
--- coefficients from the top down goes on by back-more and ends with the generator (back-all).
+-- Proved: the generator of k + 1 roots, stretched, is that of k roots times z + α^first and a constant (stretched),
+-- since the roots are consecutive powers of α. So a coefficient is known from the one above it (coefficient-below), its
+-- exponent from that one's (exponent-more). A loop that stores the coefficients from the top down goes on by back-more
+-- and ends with the generator (back-all).
 use Prim.Native.Nat.{ℕ, zero, suc, _+_, _-_, _≤_, _<_}
 use mathlib.Core.Path.{_≡_, sym, ap, ap₂, _∙_, fun-ext}
 use mathlib.Core.Bool.{Bool, _&&_}
@@ -15,12 +16,15 @@ use native.Mathlib.Omega.{arith}
 use lib.Bits.{bitXor}
 use lib.Dec.{T, eqb, ltb, eqb→eq, ltb→lt}
 use lib.ListN.{length, getD, set}
-use Rattle.field.specs.Field.{F, 𝟎, 𝟏, α, _⊕_, _⊙_, of, pow, ⊕-group, ⊕-lc, ⊕-zero, zero-⊕, ⊙-zero, one-⊙, ⊙-cancel, ⊙-ring}
-use Rattle.field.specs.Field.{alpha≢zero, of-byte, of-xor, of-one, pow-zero, pow-suc, pow-add, power-255, power-nonzero}
+use Rattle.field.specs.Field.{F, 𝟎, 𝟏, α, _⊕_, _⊙_, of, pow, ⊕-group, ⊕-lc, ⊕-zero, zero-⊕, ⊙-zero, one-⊙}
+use Rattle.field.specs.Field.{⊙-cancel, ⊙-ring, alpha≢zero, of-byte, of-xor, of-one, pow-zero, pow-suc}
+use Rattle.field.specs.Field.{pow-add, power-255, power-nonzero}
 use Rattle.field.specs.Log.{powerTable, powerTable-at}
 use Rattle.field.specs.Test.{all, all-at, and-both}
-use Rattle.series.specs.Series.{Series, O, K, Z, _⊞_, _⊠_, ⊠-ring, ⊞-at, K-suc, K-⊠-at, Z-⊠-at0, Z-⊠-at, ⊞-⊠, ⊠-zero, head-tail}
-use Rattle.series.specs.Shift.{zpow, drop, zpow-suc, zpow-at, zpow-one, zpow-other, zpow-low, drop-at0, drop-suc, drop-zpow}
+use Rattle.series.specs.Series.{Series, O, K, Z, _⊞_, _⊠_, ⊠-ring, ⊞-at, K-suc, K-⊠-at, Z-⊠-at0}
+use Rattle.series.specs.Series.{Z-⊠-at, ⊞-⊠, ⊠-zero, head-tail}
+use Rattle.series.specs.Shift.{zpow, drop, zpow-suc, zpow-at, zpow-one, zpow-other}
+use Rattle.series.specs.Shift.{zpow-low, drop-at0, drop-suc, drop-zpow}
 use Rattle.series.specs.Degree.{below, below-⊠, below-zpow, below-drop, below-none}
 use Rattle.series.specs.Array.{bytes}
 use Rattle.kernel.specs.Store.{bytes-add}
@@ -66,13 +70,15 @@ root-add first k = let e : first + k + 1 ≡ first + (k + 1) = omega arith in ap
 module _ (first : ℕ) where
   stretched : (k : ℕ) → stretch (generator first (suc k)) ≡ K (root k) ⊠ ((Z ⊞ K (pow α first)) ⊠ generator first k)
   unfolding generator
-  stretched zero = stretch-factor (root (first + 0)) (K 𝟏) ∙ rw (stretch-one, root-add, root-power, pow-zero) (shape (pow α first))
+  stretched zero = stretch-factor (root (first + 0)) (K 𝟏)
+      ∙ rw (stretch-one, root-add, root-power, pow-zero) (shape (pow α first))
     where
       shape : (a : F) → (K α ⊠ Z ⊞ K (a ⊙ (α ⊙ 𝟏))) ⊠ K 𝟏 ≡ K (α ⊙ 𝟏) ⊠ ((Z ⊞ K a) ⊠ K 𝟏)
       shape a = simp ⊠-ring
   stretched (suc k) =
       let e : first + suc k ≡ suc (first + k) = omega arith in
-      stretch-factor (root (first + suc k)) _ ∙ rw (stretched k, e, root-suc, root-suc) (shape (root k) (root (first + k)) (pow α first) (generator first k))
+      stretch-factor (root (first + suc k)) _
+      ∙ rw (stretched k, e, root-suc, root-suc) (shape (root k) (root (first + k)) (pow α first) (generator first k))
     where
       shape : (r s a : F) (g : Series)
           → (K α ⊠ Z ⊞ K (α ⊙ s)) ⊠ (K r ⊠ ((Z ⊞ K a) ⊠ g)) ≡ K (α ⊙ r) ⊠ ((Z ⊞ K a) ⊠ ((Z ⊞ K s) ⊠ g))
@@ -80,12 +86,14 @@ module _ (first : ℕ) where
 
   -- ---- a coefficient from the one above it
 
-  coefficient-more : (k i : ℕ) → generator first (suc k) (suc i) ≡ generator first k i ⊕ root (first + k) ⊙ generator first k (suc i)
+  coefficient-more : (k i : ℕ)
+      → generator first (suc k) (suc i) ≡ generator first k i ⊕ root (first + k) ⊙ generator first k (suc i)
   unfolding generator
   coefficient-more k i = rw (⊞-⊠, ⊞-at, Z-⊠-at, K-⊠-at)
 
   coefficient-stretched : (k i : ℕ)
-      → root i ⊙ generator first (suc k) (suc i) ≡ root k ⊙ (generator first k i ⊕ pow α first ⊙ generator first k (suc i))
+      → root i ⊙ generator first (suc k) (suc i)
+      ≡ root k ⊙ (generator first k i ⊕ pow α first ⊙ generator first k (suc i))
   unfolding stretch
   coefficient-stretched k i =
       ap (λ (s : F). s ⊙ generator first (suc k) (suc i)) (root-power i ∙ sym (pow-suc α i))
@@ -101,14 +109,16 @@ module _ (first : ℕ) where
 
   -- from the top, with j coefficients above it
   coefficient-below : (k j : ℕ) → j < k
-      → (root j ⊕ 𝟏) ⊙ generator first k (k - (j + 1)) ≡ root j ⊙ (pow α first ⊙ ((root (k - (j + 1)) ⊕ 𝟏) ⊙ generator first k (k - j)))
+      → (root j ⊕ 𝟏) ⊙ generator first k (k - (j + 1))
+      ≡ root j ⊙ (pow α first ⊙ ((root (k - (j + 1)) ⊕ 𝟏) ⊙ generator first k (k - j)))
   unfolding root
   coefficient-below k j h =
       let e : k ≡ j + 1 + i = omega arith in
       let d : k - j ≡ suc i = omega arith in
       ⊙-cancel (pow α i) (power-nonzero i)
       (sym (rw d (shape (pow α i) (root j) (pow α first ⊙ ((root i ⊕ 𝟏) ⊙ generator first k (suc i)))
-      ∙ ap (λ (s : F). s ⊙ (pow α first ⊙ ((root i ⊕ 𝟏) ⊙ generator first k (suc i)))) (sym (ap (pow α) e ∙ pow-add α (j + 1) i))
+      ∙ ap (λ (s : F). s ⊙ (pow α first ⊙ ((root i ⊕ 𝟏) ⊙ generator first k (suc i))))
+      (sym (ap (pow α) e ∙ pow-add α (j + 1) i))
       ∙ coefficient-rule k i
       ∙ ap (λ (s : F). (s ⊕ pow α i) ⊙ generator first k i) (ap (pow α) e ∙ pow-add α (j + 1) i)
       ∙ last (pow α i) (root j) (generator first k i))))
@@ -124,11 +134,13 @@ module _ (first : ℕ) where
 
   pub coefficient-top : (k : ℕ) → generator first k k ≡ 𝟏
   unfolding rest
-  coefficient-top k = ⊕-lc (sym (⊞-at (generator first k) (zpow k) k) ∙ below-rest first k k (omega arith)) (rw zpow-one (simp ⊕-group))
+  coefficient-top k =
+      ⊕-lc (sym (⊞-at (generator first k) (zpow k) k) ∙ below-rest first k k (omega arith)) (rw zpow-one (simp ⊕-group))
 
   -- ---- in exponents
 
-  pub exponent-more : (k j e a b : ℕ) → j < k → b < 256 → pow α e ≡ generator first k (k - j) → pow α a ≡ root (k - (j + 1)) ⊕ 𝟏
+  pub exponent-more : (k j e a b : ℕ) → j < k → b < 256 → pow α e ≡ generator first k (k - j)
+      → pow α a ≡ root (k - (j + 1)) ⊕ 𝟏
       → pow α b ≡ root j ⊕ 𝟏 → pow α (e + (first + j + 256 + a) - b) ≡ generator first k (k - (j + 1))
   unfolding root
   exponent-more k j e a b h small p q r =
@@ -136,7 +148,8 @@ module _ (first : ℕ) where
       ⊙-cancel (pow α b) (power-nonzero b)
       (sym (pow-add α b _)
       ∙ ap (pow α) s
-      ∙ rw (pow-add α 255, pow-add α (j + 1), pow-add α first, pow-add α a, power-255, p, q, r) (one-⊙ _ ∙ sym (coefficient-below k j h)))
+      ∙ rw (pow-add α 255, pow-add α (j + 1), pow-add α first, pow-add α a, power-255, p, q, r)
+      (one-⊙ _ ∙ sym (coefficient-below k j h)))
 
 -- ---- Zech's logarithms
 
@@ -151,23 +164,27 @@ pub zech : (l : List ℕ) → T (zech? powerTable l) → Zech l
 unfolding zech? root
 zech l t = record { at = λ i h. entry i h (and-both (ltb (getD l i 0) 255) _ (all-at 48 _ t i h)) }
   where
-    entry : (i : ℕ) → i < 48 → T (ltb (getD l i 0) 255) × T (eqb (getD powerTable (getD l i 0) 0) (bitXor (getD powerTable (i + 1) 0) 1))
+    entry : (i : ℕ) → i < 48
+        → T (ltb (getD l i 0) 255) × T (eqb (getD powerTable (getD l i 0) 0) (bitXor (getD powerTable (i + 1) 0) 1))
         → pow α (getD l i 0) ≡ root i ⊕ 𝟏
     entry i h (small, same) =
         sym (of-byte _)
-        ∙ ap of (sym (powerTable-at (getD l i 0) (ltb→lt _ 255 small)) ∙ eqb→eq _ _ same ∙ ap (λ (x : ℕ). bitXor x 1) (powerTable-at (i + 1) (omega arith)))
+        ∙ ap of (sym (powerTable-at (getD l i 0) (ltb→lt _ 255 small)) ∙ eqb→eq _ _ same
+        ∙ ap (λ (x : ℕ). bitXor x 1) (powerTable-at (i + 1) (omega arith)))
         ∙ of-xor _ 1
         ∙ ap₂ _⊕_ (of-byte _) of-one
 
 -- ---- stored from the top down
 
 upper-more : (n : ℕ) (w : Series) → zpow (suc n) ⊠ drop (suc n) w ⊞ K (w n) ⊠ zpow n ≡ zpow n ⊠ drop n w
-upper-more n w = sym (ap (λ (f : Series). zpow n ⊠ f) (head-tail (drop n w)) ∙ rw (drop-at0, ← drop-suc n w, zpow-suc) (simp ⊠-ring))
+upper-more n w =
+    sym (ap (λ (f : Series). zpow n ⊠ f) (head-tail (drop n w)) ∙ rw (drop-at0, ← drop-suc n w, zpow-suc) (simp ⊠-ring))
 
 module _ (first : ℕ) where
   aligned-at : (k i : ℕ) → k ≤ 48 → i < k → aligned first k (48 - k + i) ≡ generator first k i
   unfolding aligned rest
-  aligned-at k i h l = zpow-at (48 - k) (rest first k) i ∙ ⊞-at (generator first k) (zpow k) i ∙ ap (λ (s : F). generator first k i ⊕ s) (zpow-other k i (omega arith)) ∙ ⊕-zero _
+  aligned-at k i h l = zpow-at (48 - k) (rest first k) i ∙ ⊞-at (generator first k) (zpow k) i
+      ∙ ap (λ (s : F). generator first k i ⊕ s) (zpow-other k i (omega arith)) ∙ ⊕-zero _
 
   pub aligned-low : (k i : ℕ) → i < 48 - k → aligned first k i ≡ 𝟎
   unfolding aligned
@@ -175,26 +192,34 @@ module _ (first : ℕ) where
 
   below-aligned : (k : ℕ) → k ≤ 48 → below 48 (aligned first k)
   unfolding aligned
-  below-aligned k h = below-⊠ (suc (48 - k)) k 48 (zpow (48 - k)) (rest first k) (below-zpow (48 - k)) (below-rest first k) (omega arith)
+  below-aligned k h = below-⊠ (suc (48 - k)) k 48 (zpow (48 - k)) (rest first k) (below-zpow (48 - k))
+      (below-rest first k) (omega arith)
 
   pub back-none : (k : ℕ) → k ≤ 48 → O ≡ zpow 48 ⊠ drop 48 (aligned first k)
-  back-none k h = sym (ap (λ (f : Series). zpow 48 ⊠ f) (below-none _ (below-drop 48 48 _ (below-aligned k h))) ∙ ⊠-zero _)
+  back-none k h =
+      sym (ap (λ (f : Series). zpow 48 ⊠ f) (below-none _ (below-drop 48 48 _ (below-aligned k h))) ∙ ⊠-zero _)
 
-  pub back-more : (l : List ℕ) (k j v : ℕ) → k ≤ 48 → j < k → length l ≡ 48 → bytes l ≡ zpow (48 - j) ⊠ drop (48 - j) (aligned first k)
-      → of v ≡ generator first k (k - (j + 1)) → bytes (set l (48 - (j + 1)) v) ≡ zpow (48 - (j + 1)) ⊠ drop (48 - (j + 1)) (aligned first k)
+  pub back-more : (l : List ℕ) (k j v : ℕ) → k ≤ 48 → j < k → length l ≡ 48
+      → bytes l ≡ zpow (48 - j) ⊠ drop (48 - j) (aligned first k)
+      → of v ≡ generator first k (k - (j + 1))
+      → bytes (set l (48 - (j + 1)) v) ≡ zpow (48 - (j + 1)) ⊠ drop (48 - (j + 1)) (aligned first k)
   back-more l k j v h m long e q =
       let s : 48 - j ≡ suc n = omega arith in
       let d : 48 - k + (k - (j + 1)) ≡ n = omega arith in
-      let here : of v ≡ aligned first k n = q ∙ sym (aligned-at k (k - (j + 1)) h (omega arith)) ∙ ap (aligned first k) d in
-      bytes-add l n v (aligned first k n) (omega arith) (here ∙ sym (ap (λ (x : F). x ⊕ aligned first k n) (none s) ∙ zero-⊕ _))
-      ∙ ap (λ (f : Series). f ⊞ K (aligned first k n) ⊠ zpow n) (e ∙ ap (λ (m : ℕ). zpow m ⊠ drop m (aligned first k)) s)
+      let here : of v ≡ aligned first k n = q ∙ sym (aligned-at k (k - (j + 1)) h (omega arith))
+      ∙ ap (aligned first k) d in
+      bytes-add l n v (aligned first k n) (omega arith)
+      (here ∙ sym (ap (λ (x : F). x ⊕ aligned first k n) (none s) ∙ zero-⊕ _))
+      ∙ ap (λ (f : Series). f ⊞ K (aligned first k n) ⊠ zpow n)
+      (e ∙ ap (λ (m : ℕ). zpow m ⊠ drop m (aligned first k)) s)
       ∙ upper-more n (aligned first k)
     where
       n : ℕ
       n = 48 - (j + 1)
 
       none : 48 - j ≡ suc n → bytes l n ≡ 𝟎
-      none s = ap (λ (f : Series). f n) (e ∙ ap (λ (m : ℕ). zpow m ⊠ drop m (aligned first k)) s) ∙ zpow-low (suc n) (drop (suc n) (aligned first k)) n (omega arith)
+      none s = ap (λ (f : Series). f n) (e ∙ ap (λ (m : ℕ). zpow m ⊠ drop m (aligned first k)) s)
+          ∙ zpow-low (suc n) (drop (suc n) (aligned first k)) n (omega arith)
 
   pub back-all : (k : ℕ) → zpow (48 - k) ⊠ drop (48 - k) (aligned first k) ≡ aligned first k
   unfolding aligned

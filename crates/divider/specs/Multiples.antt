@@ -22,7 +22,8 @@ Rows = List ℕ → ℕ → Series
 
 abbrev pub wide : Rows
 wide t f =
-    six (getD t (f * 6) 0) (getD t (f * 6 + 1) 0) (getD t (f * 6 + 2) 0) (getD t (f * 6 + 3) 0) (getD t (f * 6 + 4) 0) (getD t (f * 6 + 5) 0)
+    six (getD t (f * 6) 0) (getD t (f * 6 + 1) 0) (getD t (f * 6 + 2) 0) (getD t (f * 6 + 3) 0)
+    (getD t (f * 6 + 4) 0) (getD t (f * 6 + 5) 0)
 
 abbrev pub narrow : Rows
 narrow t f = six 0 0 (getD t (f * 4) 0) (getD t (f * 4 + 1) 0) (getD t (f * 4 + 2) 0) (getD t (f * 4 + 3) 0)

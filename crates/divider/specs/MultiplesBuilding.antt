@@ -5,8 +5,9 @@
 --   Added row w i r t u   u is t with the first i rows, r added to each, from row w on
 --   Built row low w m t   the first w rows of the table of low, w a power of two, and w times low in m
 --
--- Proved: pairs of stores write a row (wrote-narrow, wrote-wide). A loop that adds r to rows goes on by added-more; a loop that doubles the number of
--- rows goes on by built-more, with multiples that fit into narrow rows (built-slim), and ends with a table (built-all).
+-- Proved: pairs of stores write a row (wrote-narrow, wrote-wide). A loop that adds r to rows goes on by added-more; a
+-- loop that doubles the number of rows goes on by built-more, with multiples that fit into narrow rows (built-slim),
+-- and ends with a table (built-all).
 use Prim.Native.Nat.{ℕ, _+_, _-_, _*_, _≤_, _<_}
 use mathlib.Core.Path.{_≡_, refl, sym, ap, ap₂, _∙_}
 use mathlib.Core.Logic.{_≢_}
@@ -47,7 +48,8 @@ pub record Written (row : Rows) (f : ℕ) (r : Series) (t u : List ℕ) : Type 0
   pub here : row u f ≡ r
   pub other : (g : ℕ) → g ≢ f → row u g ≡ row t g
 
-written-narrow : {t u v : List ℕ} (f a b c d : ℕ) → Two (f * 4) a b t u → Two (f * 4 + 2) c d u v → Written narrow f (six 0 0 a b c d) t v
+written-narrow : {t u v : List ℕ} (f a b c d : ℕ) → Two (f * 4) a b t u → Two (f * 4 + 2) c d u v
+    → Written narrow f (six 0 0 a b c d) t v
 written-narrow {t} {u} {v} f a b c d p q =
     record {
       long = q .long ∙ p .long;
@@ -73,7 +75,8 @@ written-narrow {t} {u} {v} f a b c d p q =
     kept : (g k : ℕ) → g ≢ f → g * 4 ≤ k → k < g * 4 + 4 → getD v k 0 ≡ getD t k 0
     kept g k n lo hi = q .other k (omega arith) (omega arith) ∙ p .other k (omega arith) (omega arith)
 
-written-wide : {t u v x : List ℕ} (f a b c d e h : ℕ) → Two (f * 6) a b t u → Two (f * 6 + 2) c d u v → Two (f * 6 + 4) e h v x
+written-wide : {t u v x : List ℕ} (f a b c d e h : ℕ) → Two (f * 6) a b t u → Two (f * 6 + 2) c d u v
+    → Two (f * 6 + 4) e h v x
     → Written wide f (six a b c d e h) t x
 written-wide {t} {u} {v} {x} f a b c d e h p q r =
     record {
@@ -94,27 +97,33 @@ written-wide {t} {u} {v} {x} f a b c d e h p q r =
     at0 = r .other (f * 6) (omega arith) (omega arith) ∙ q .other (f * 6) (omega arith) (omega arith) ∙ p .first
 
     at1 : getD x (f * 6 + 1) 0 ≡ b
-    at1 = r .other (f * 6 + 1) (omega arith) (omega arith) ∙ q .other (f * 6 + 1) (omega arith) (omega arith) ∙ p .second
+    at1 = r .other (f * 6 + 1) (omega arith) (omega arith)
+        ∙ q .other (f * 6 + 1) (omega arith) (omega arith) ∙ p .second
 
     at2 : getD x (f * 6 + 2) 0 ≡ c
     at2 = r .other (f * 6 + 2) (omega arith) (omega arith) ∙ q .first
 
     at3 : getD x (f * 6 + 3) 0 ≡ d
-    at3 = let e : f * 6 + 3 ≡ f * 6 + 2 + 1 = omega arith in ap (λ (k : ℕ). getD x k 0) e ∙ r .other (f * 6 + 2 + 1) (omega arith) (omega arith) ∙ q .second
+    at3 =
+        let e : f * 6 + 3 ≡ f * 6 + 2 + 1 = omega arith in
+        ap (λ (k : ℕ). getD x k 0) e ∙ r .other (f * 6 + 2 + 1) (omega arith) (omega arith) ∙ q .second
 
     at5 : getD x (f * 6 + 5) 0 ≡ h
     at5 = let e : f * 6 + 5 ≡ f * 6 + 4 + 1 = omega arith in ap (λ (k : ℕ). getD x k 0) e ∙ r .second
 
     kept : (g k : ℕ) → g ≢ f → g * 6 ≤ k → k < g * 6 + 6 → getD x k 0 ≡ getD t k 0
     kept g k n lo hi =
-        r .other k (omega arith) (omega arith) ∙ q .other k (omega arith) (omega arith) ∙ p .other k (omega arith) (omega arith)
+        r .other k (omega arith) (omega arith) ∙ q .other k (omega arith) (omega arith)
+        ∙ p .other k (omega arith) (omega arith)
 
 -- the words of r that a row for degree k holds
-pub wrote-narrow : {t u v : List ℕ} (k f : ℕ) (r : Packed) → k ≤ 32 → Slim k r → Two (f * 4) (r .2) (r .3) t u → Two (f * 4 + 2) (r .4) (r .5) u v
+pub wrote-narrow : {t u v : List ℕ} (k f : ℕ) (r : Packed) → k ≤ 32 → Slim k r → Two (f * 4) (r .2) (r .3) t u
+    → Two (f * 4 + 2) (r .4) (r .5) u v
     → Written (rows k) f (packed r) t v
 wrote-narrow k f r h s p q = rw (rows-narrow k h, s h) (written-narrow f (r .2) (r .3) (r .4) (r .5) p q)
 
-pub wrote-wide : {t u v x : List ℕ} (k f : ℕ) (r : Packed) → 32 < k → Two (f * 6) (r .0) (r .1) t u → Two (f * 6 + 2) (r .2) (r .3) u v
+pub wrote-wide : {t u v x : List ℕ} (k f : ℕ) (r : Packed) → 32 < k → Two (f * 6) (r .0) (r .1) t u
+    → Two (f * 6 + 2) (r .2) (r .3) u v
     → Two (f * 6 + 4) (r .4) (r .5) v x → Written (rows k) f (packed r) t x
 wrote-wide k f r h p q o = rw (rows-wide k h) (written-wide f (r .0) (r .1) (r .2) (r .3) (r .4) (r .5) p q o)
 
@@ -128,7 +137,8 @@ pub record Added (row : Rows) (w i : ℕ) (r : Series) (t u : List ℕ) : Type 0
 pub added-none : (row : Rows) (w : ℕ) (r : Series) (t : List ℕ) → Added row w 0 r t t
 added-none row w r t = record { long = refl; here = λ f h. absurd (omega arith); low = λ f h. refl }
 
-pub added-more : {row : Rows} {w i : ℕ} {r : Series} {t u v : List ℕ} (s : Series) → Added row w i r t u → i < w → s ≡ row u i ⊞ r
+pub added-more : {row : Rows} {w i : ℕ} {r : Series} {t u v : List ℕ} (s : Series)
+    → Added row w i r t u → i < w → s ≡ row u i ⊞ r
     → Written row (w + i) s u v → Added row w (i + 1) r t v
 added-more {row} {w} {i} {r} {t} {u} {v} s p h e q =
     record {
@@ -149,17 +159,20 @@ pub record Built (row : Rows) (low : Series) (w : ℕ) (m t : List ℕ) : Type 0
   pub long : 1536 ≤ length t
   pub at : (f : ℕ) → f < w → row t f ≡ K (of f) ⊠ low
 
-pub built-one : (row : Rows) (m t u : List ℕ) → 1536 ≤ length t → Written row 0 (six 0 0 0 0 0 0) t u → Built row (bytes m) 1 m u
+pub built-one : (row : Rows) (m t u : List ℕ) → 1536 ≤ length t → Written row 0 (six 0 0 0 0 0 0) t u
+    → Built row (bytes m) 1 m u
 built-one row m t u h q =
     record {
       power = power-one;
       top = λ _. sym (ap (λ (a : F). K a ⊠ bytes m) of-one ∙ one-⊠ (bytes m));
       long = omega (arith, q .long);
-      at = λ f l. let z : f ≡ 0 = omega arith in rw z (q .here ∙ six-zero ∙ sym (rw (of-zero, K-zero) (zero-⊠ (bytes m))));
+      at = λ f l. let z : f ≡ 0 = omega arith in
+          rw z (q .here ∙ six-zero ∙ sym (rw (of-zero, K-zero) (zero-⊠ (bytes m))));
     }
 
 -- row w + f is row f and the product of w
-pub built-more : {row : Rows} {low : Series} {w : ℕ} {m t : List ℕ} (next u : List ℕ) (r : Series) → Built row low w m t → w < 256 → r ≡ bytes m
+pub built-more : {row : Rows} {low : Series} {w : ℕ} {m t : List ℕ} (next u : List ℕ) (r : Series)
+    → Built row low w m t → w < 256 → r ≡ bytes m
     → Added row w w r t u → bytes next ≡ K α ⊠ bytes m → Built row low (w + w) next u
 built-more {row} {low} {w} {m} {t} next u r p h z q e =
     record {
@@ -177,11 +190,14 @@ built-more {row} {low} {w} {m} {t} next u r p h z q e =
         ap (row u) (sym s)
         ∙ q .here (f - w) d
         ∙ ap₂ _⊞_ (p .at (f - w) d) (z ∙ p .top h)
-        ∙ sym (ap (λ (x : ℕ). K (of x) ⊠ low) (sym s) ∙ ap (λ (a : F). K a ⊠ low) (power-high w (f - w) (p .power) d) ∙ simp ⊠-ring)
+        ∙ sym (ap (λ (x : ℕ). K (of x) ⊠ low) (sym s)
+        ∙ ap (λ (a : F). K a ⊠ low) (power-high w (f - w) (p .power) d) ∙ simp ⊠-ring)
 
-pub built-all : (row : Rows) (low : Series) (w : ℕ) (m t : List ℕ) → Built row low w m t → 256 ≤ w → Multiples row t × (lower row t ≡ low)
+pub built-all : (row : Rows) (low : Series) (w : ℕ) (m t : List ℕ) → Built row low w m t → 256 ≤ w
+    → Multiples row t × (lower row t ≡ low)
 unfolding lower
-built-all row low w m t p h = (record { long = p .long; at = λ f l. p .at f (omega arith) ∙ ap (λ (g : Series). K (of f) ⊠ g) (sym one) }, one)
+built-all row low w m t p h =
+    (record { long = p .long; at = λ f l. p .at f (omega arith) ∙ ap (λ (g : Series). K (of f) ⊠ g) (sym one) }, one)
   where
     one : row t 1 ≡ low
     one = p .at 1 (omega arith) ∙ ap (λ (a : F). K a ⊠ low) of-one ∙ one-⊠ low
@@ -191,4 +207,5 @@ pub built-slim : {row : Rows} {low : Series} {w : ℕ} {m t : List ℕ} (k : ℕ
     → ((i : ℕ) → i < 48 - k → low i ≡ 𝟎) → Word (r .0) → Word (r .1) → packed r ≡ bytes m → Slim k r
 built-slim {row} {low} {w} {m} {t} k r p h z h0 h1 e l =
     packed-tops (r .0) (r .1) (r .2) (r .3) (r .4) (r .5) h0 h1 (λ i b.
-    ap (λ (f : Series). f i) (e ∙ p .top h) ∙ K-⊠-at (of w) low i ∙ ap (λ (s : F). of w ⊙ s) (z i (omega arith)) ∙ ⊙-zero (of w))
+    ap (λ (f : Series). f i) (e ∙ p .top h) ∙ K-⊠-at (of w) low i
+    ∙ ap (λ (s : F). of w ⊙ s) (z i (omega arith)) ∙ ⊙-zero (of w))

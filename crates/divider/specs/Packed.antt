@@ -8,8 +8,9 @@
 --   packed r         the same for a `Packed`
 --   tops r           the same without its first two words: zeros for these
 --
--- Proved: exclusive or of words is the sum (six-xor); a shift by one symbol, with the symbol that falls out of a word carried into the next, is the
--- product with z (six-up, six-shifted); the last symbol (six-top); zeros in the first two words (packed-tops); a word from its symbols, the last first (pack-more), six words from 48 symbols (six-pack) and
+-- Proved: exclusive or of words is the sum (six-xor); a shift by one symbol, with the symbol that falls out of a word
+-- carried into the next, is the product with z (six-up, six-shifted); the last symbol (six-top); zeros in the first two
+-- words (packed-tops); a word from its symbols, the last first (pack-more), six words from 48 symbols (six-pack) and
 -- back (six-spread).
 use Prim.Native.Nat.{ℕ, zero, suc, _+_, _-_, _*_, _/_, _%_, _^_, _<_}
 use mathlib.Core.Path.{_≡_, refl, sym, ap, ap₂, _∙_, fun-ext}
@@ -17,8 +18,10 @@ use native.Mathlib.Nat.{mul-assoc, pow-suc}
 use native.Mathlib.Omega.{arith}
 use lib.Bits.{bitXor, xor-shr, xor-shifted, xor-lt}
 use Rattle.field.specs.Field.{𝟎, _⊕_, of, of-xor, of-zero, of-mod, of-inj, zero-⊕}
-use Rattle.series.specs.Series.{Series, O, K, Z, _⊞_, _⊠_, tail, ⊠-ring, ⊞-lc, ⊠-comm, O-at, K-at0, K-suc, ⊞-at, ⊞-comm, Z-⊠-at0, Z-⊠-at, one-⊠, ⊠-assoc}
-use Rattle.series.specs.Shift.{zpow, drop, cut, zpow-zero, zpow-suc, zpow-add, zpow-at, zpow-divide, drop-at, drop-none, cut-high, cut-head}
+use Rattle.series.specs.Series.{Series, O, K, Z, _⊞_, _⊠_, tail, ⊠-ring, ⊞-lc, ⊠-comm, O-at, K-at0, K-suc, ⊞-at, ⊞-comm}
+use Rattle.series.specs.Series.{Z-⊠-at0, Z-⊠-at, one-⊠, ⊠-assoc}
+use Rattle.series.specs.Shift.{zpow, drop, cut, zpow-zero, zpow-suc, zpow-add, zpow-at, zpow-divide}
+use Rattle.series.specs.Shift.{drop-at, drop-none, cut-high, cut-head}
 use Rattle.series.specs.Degree.{below}
 use Rattle.divider.specs.declared.packed.Packed.{Packed}
 use Rattle.kernel.specs.Store.{cut-join}
@@ -69,7 +72,8 @@ digits-byte c h = fun-ext at-i
     at-i zero = digits-at0 c ∙ sym (K-at0 (of c))
     at-i (suc i) =
         let e : c / 256 ≡ 0 = omega arith in
-        sym (digits-next c i) ∙ ap (λ (m : ℕ). digits m i) e ∙ ap (λ (f : Series). f i) digits-zero ∙ O-at i ∙ sym (K-suc (of c) i)
+        sym (digits-next c i) ∙ ap (λ (m : ℕ). digits m i) e ∙ ap (λ (f : Series). f i) digits-zero
+        ∙ O-at i ∙ sym (K-suc (of c) i)
 
 digits-256 : (m : ℕ) → digits (m * 256) ≡ Z ⊠ digits m
 digits-256 m = fun-ext at-i
@@ -83,9 +87,12 @@ digits-256 m = fun-ext at-i
         sym (digits-next (m * 256) i) ∙ ap (λ (k : ℕ). digits k i) e ∙ sym (Z-⊠-at (digits m) i)
 
 digits-up : (n m : ℕ) → digits (m * 256 ^ n) ≡ zpow n ⊠ digits m
-digits-up zero m = let e : m * 256 ^ 0 ≡ m = omega arith in ap digits e ∙ sym (ap (λ (f : Series). f ⊠ digits m) zpow-zero ∙ one-⊠ (digits m))
+digits-up zero m =
+    let e : m * 256 ^ 0 ≡ m = omega arith in
+    ap digits e ∙ sym (ap (λ (f : Series). f ⊠ digits m) zpow-zero ∙ one-⊠ (digits m))
 digits-up (suc n) m =
-    let e : m * 256 ^ suc n ≡ m * 256 ^ n * 256 = ap (λ (k : ℕ). m * k) (pow-suc 256 n) ∙ sym (mul-assoc m (256 ^ n) 256) in
+    let e : m * 256 ^ suc n ≡ m * 256 ^ n * 256 = ap (λ (k : ℕ). m * k) (pow-suc 256 n)
+    ∙ sym (mul-assoc m (256 ^ n) 256) in
     ap digits e ∙ digits-256 (m * 256 ^ n) ∙ rw (digits-up n m, zpow-suc) (simp ⊠-ring)
 
 -- a number in two: its last eight digits and the others
@@ -131,7 +138,8 @@ abbrev pub tops : Packed → Series
 tops r = six 0 0 (r .2) (r .3) (r .4) (r .5)
 
 join-at : (a : ℕ) (f : Series) (i : ℕ) → Word a → join a f (8 + i) ≡ f i
-join-at a f i h = ⊞-at (digits a) _ (8 + i) ∙ ap₂ _⊕_ (below-digits a h (8 + i) (omega arith)) (zpow-at 8 f i) ∙ zero-⊕ (f i)
+join-at a f i h = ⊞-at (digits a) _ (8 + i)
+    ∙ ap₂ _⊕_ (below-digits a h (8 + i) (omega arith)) (zpow-at 8 f i) ∙ zero-⊕ (f i)
 
 pub six-top : (a b c d e f : ℕ) → Word a → Word b → Word c → Word d → Word e → six a b c d e f 47 ≡ of (out f)
 six-top a b c d e f ha hb hc hd he =
@@ -146,17 +154,21 @@ join-xor : (a b : ℕ) (f g h : Series) → h ≡ f ⊞ g → join (bitXor a b) 
 join-xor a b f g h e = ap₂ (λ (s t : Series). s ⊞ zpow 8 ⊠ t) (digits-xor a b) e ∙ simp ⊠-ring
 
 pub six-xor : (a b c d e f a' b' c' d' e' f' : ℕ)
-    → six (bitXor a a') (bitXor b b') (bitXor c c') (bitXor d d') (bitXor e e') (bitXor f f') ≡ six a b c d e f ⊞ six a' b' c' d' e' f'
+    → six (bitXor a a') (bitXor b b') (bitXor c c') (bitXor d d') (bitXor e e') (bitXor f f')
+    ≡ six a b c d e f ⊞ six a' b' c' d' e' f'
 six-xor a b c d e f a' b' c' d' e' f' =
-    join-xor a a' _ _ _ (join-xor b b' _ _ _ (join-xor c c' _ _ _ (join-xor d d' _ _ _ (join-xor e e' _ _ _ (digits-xor f f')))))
+    join-xor a a' _ _ _
+    (join-xor b b' _ _ _ (join-xor c c' _ _ _ (join-xor d d' _ _ _ (join-xor e e' _ _ _ (digits-xor f f')))))
 
 -- ---- one symbol up: c is carried into a word, and e falls out at the end
 
 last-up : (a c : ℕ) → digits (bitXor (up a) c) ≡ Z ⊠ digits a ⊞ digits c ⊞ zpow 8 ⊠ digits (out a)
 last-up a c = digits-xor (up a) c ∙ ⊞-lc (digits-shift a) (simp ⊠-ring)
 
-join-up : (a c : ℕ) (f r e : Series) → r ≡ Z ⊠ f ⊞ digits (out a) ⊞ e → join (bitXor (up a) c) r ≡ Z ⊠ join a f ⊞ digits c ⊞ zpow 8 ⊠ e
-join-up a c f r e q = ap₂ (λ (s t : Series). s ⊞ zpow 8 ⊠ t) (digits-xor (up a) c) q ∙ ⊞-lc (digits-shift a) (simp ⊠-ring)
+join-up : (a c : ℕ) (f r e : Series) → r ≡ Z ⊠ f ⊞ digits (out a) ⊞ e
+    → join (bitXor (up a) c) r ≡ Z ⊠ join a f ⊞ digits c ⊞ zpow 8 ⊠ e
+join-up a c f r e q = ap₂ (λ (s t : Series). s ⊞ zpow 8 ⊠ t) (digits-xor (up a) c) q
+    ∙ ⊞-lc (digits-shift a) (simp ⊠-ring)
 
 first-up : (a : ℕ) (f r e : Series) → r ≡ Z ⊠ f ⊞ digits (out a) ⊞ e → join (up a) r ≡ Z ⊠ join a f ⊞ zpow 8 ⊠ e
 first-up a f r e q = ap (λ (t : Series). digits (up a) ⊞ zpow 8 ⊠ t) q ∙ ⊞-lc (digits-shift a) (simp ⊠-ring)
@@ -171,7 +183,8 @@ zpow-48 f = more 8 40 ∙ in8 (more 8 32 ∙ in8 (more 8 24 ∙ in8 (more 8 16 �
     in8 e i = zpow 8 ⊠ e i
 
 pub six-up : (a b c d e f : ℕ)
-    → six (up a) (bitXor (up b) (out a)) (bitXor (up c) (out b)) (bitXor (up d) (out c)) (bitXor (up e) (out d)) (bitXor (up f) (out e))
+    → six (up a) (bitXor (up b) (out a)) (bitXor (up c) (out b)) (bitXor (up d) (out c))
+    (bitXor (up e) (out d)) (bitXor (up f) (out e))
     ≡ Z ⊠ six a b c d e f ⊞ zpow 48 ⊠ digits (out f)
 six-up a b c d e f =
     first-up a _ _ _ (join-up b _ _ _ _ (join-up c _ _ _ _ (join-up d _ _ _ _ (join-up e _ _ _ _ (last-up f _)))))
@@ -179,21 +192,25 @@ six-up a b c d e f =
 
 -- the same, and six other words added
 pub six-shifted : (a b c d e f a' b' c' d' e' f' : ℕ) → Word a → Word b → Word c → Word d → Word e → Word f
-    → six (bitXor (up a) a') (bitXor (bitXor (up b) (out a)) b') (bitXor (bitXor (up c) (out b)) c') (bitXor (bitXor (up d) (out c)) d')
+    → six (bitXor (up a) a') (bitXor (bitXor (up b) (out a)) b') (bitXor (bitXor (up c) (out b)) c')
+    (bitXor (bitXor (up d) (out c)) d')
     (bitXor (bitXor (up e) (out d)) e') (bitXor (bitXor (up f) (out e)) f')
     ≡ Z ⊠ six a b c d e f ⊞ K (six a b c d e f 47) ⊠ zpow 48 ⊞ six a' b' c' d' e' f'
 six-shifted a b c d e f a' b' c' d' e' f' ha hb hc hd he hf =
     six-xor (up a) _ _ _ _ _ a' b' c' d' e' f'
-    ∙ ap (λ (s : Series). s ⊞ six a' b' c' d' e' f') (six-up a b c d e f ∙ ap (λ (s : Series). Z ⊠ six a b c d e f ⊞ s) top)
+    ∙ ap (λ (s : Series). s ⊞ six a' b' c' d' e' f')
+    (six-up a b c d e f ∙ ap (λ (s : Series). Z ⊠ six a b c d e f ⊞ s) top)
   where
     top : zpow 48 ⊠ digits (out f) ≡ K (six a b c d e f 47) ⊠ zpow 48
     top =
-        ap (λ (s : Series). zpow 48 ⊠ s) (digits-byte (out f) (omega arith) ∙ ap K (sym (six-top a b c d e f ha hb hc hd he)))
+        ap (λ (s : Series). zpow 48 ⊠ s)
+        (digits-byte (out f) (omega arith) ∙ ap K (sym (six-top a b c d e f ha hb hc hd he)))
         ∙ ⊠-comm _ _
 
 -- ---- the first sixteen symbols zero
 
-pub packed-tops : (a b c d e f : ℕ) → Word a → Word b → ((i : ℕ) → i < 16 → six a b c d e f i ≡ 𝟎) → six a b c d e f ≡ six 0 0 c d e f
+pub packed-tops : (a b c d e f : ℕ) → Word a → Word b → ((i : ℕ) → i < 16 → six a b c d e f i ≡ 𝟎)
+    → six a b c d e f ≡ six 0 0 c d e f
 packed-tops a b c d e f ha hb z =
     zpow-divide 16 _ z ∙ ap (λ (s : Series). zpow 16 ⊠ s) rest ∙ rw (zpow-add 8 8, digits-zero) (simp ⊠-ring)
   where
@@ -217,8 +234,10 @@ pack-more f n w b hn hw hb e h =
     z : out w ≡ 0
     z = of-inj _ _ (omega arith) (omega arith) top
 
-join-pack : (a m n : ℕ) (f r : Series) → digits a ≡ cut 8 (drop m f) → r ≡ cut n (drop (m + 8) f) → join a r ≡ cut (8 + n) (drop m f)
-join-pack a m n f r e q = ap₂ (λ (s t : Series). s ⊞ zpow 8 ⊠ t) e (q ∙ ap (cut n) (sym twice)) ∙ sym (cut-join 8 n (drop m f))
+join-pack : (a m n : ℕ) (f r : Series) → digits a ≡ cut 8 (drop m f) → r ≡ cut n (drop (m + 8) f)
+    → join a r ≡ cut (8 + n) (drop m f)
+join-pack a m n f r e q = ap₂ (λ (s t : Series). s ⊞ zpow 8 ⊠ t) e (q ∙ ap (cut n) (sym twice))
+    ∙ sym (cut-join 8 n (drop m f))
   where
     twice : drop 8 (drop m f) ≡ drop (m + 8) f
     twice = fun-ext (λ i. drop-at 8 (drop m f) i ∙ drop-at m f (8 + i) ∙ sym (drop-at (m + 8) f i ∙ ap f (assoc i)))
@@ -226,13 +245,17 @@ join-pack a m n f r e q = ap₂ (λ (s t : Series). s ⊞ zpow 8 ⊠ t) e (q ∙
         assoc : (i : ℕ) → m + 8 + i ≡ m + (8 + i)
         assoc i = omega arith
 
-pub six-pack : (g : Series) (a b c d e f : ℕ) → digits a ≡ cut 8 (drop 0 g) → digits b ≡ cut 8 (drop 8 g) → digits c ≡ cut 8 (drop 16 g)
-    → digits d ≡ cut 8 (drop 24 g) → digits e ≡ cut 8 (drop 32 g) → digits f ≡ cut 8 (drop 40 g) → six a b c d e f ≡ cut 48 g
+pub six-pack : (g : Series) (a b c d e f : ℕ) → digits a ≡ cut 8 (drop 0 g) → digits b ≡ cut 8 (drop 8 g)
+    → digits c ≡ cut 8 (drop 16 g)
+    → digits d ≡ cut 8 (drop 24 g) → digits e ≡ cut 8 (drop 32 g) → digits f ≡ cut 8 (drop 40 g)
+    → six a b c d e f ≡ cut 48 g
 six-pack g a b c d e f ha hb hc hd he hf =
-    join-pack a 0 40 g _ ha (join-pack b 8 32 g _ hb (join-pack c 16 24 g _ hc (join-pack d 24 16 g _ hd (join-pack e 32 8 g _ he hf))))
+    join-pack a 0 40 g _ ha
+    (join-pack b 8 32 g _ hb (join-pack c 16 24 g _ hc (join-pack d 24 16 g _ hd (join-pack e 32 8 g _ he hf))))
     ∙ ap (cut 48) (drop-none g)
 
 pub six-spread : (a b c d e f : ℕ)
-    → O ⊞ zpow 0 ⊠ digits a ⊞ zpow 8 ⊠ digits b ⊞ zpow 16 ⊠ digits c ⊞ zpow 24 ⊠ digits d ⊞ zpow 32 ⊠ digits e ⊞ zpow 40 ⊠ digits f
+    → O ⊞ zpow 0 ⊠ digits a ⊞ zpow 8 ⊠ digits b ⊞ zpow 16 ⊠ digits c ⊞ zpow 24 ⊠ digits d
+    ⊞ zpow 32 ⊠ digits e ⊞ zpow 40 ⊠ digits f
     ≡ six a b c d e f
 six-spread a b c d e f = rw (zpow-add 8 32, zpow-add 8 24, zpow-add 8 16, zpow-add 8 8, zpow-zero) (simp ⊠-ring)

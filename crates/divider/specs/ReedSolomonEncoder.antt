@@ -1,7 +1,7 @@
 -- The encoder of one word: what the remainder by the generator holds at the top is the check symbols.
 --
--- Proved: the last k of 48 symbols have room in the first k of a word (room); copied there from the remainder, they make
--- the systematic word (encoded).
+-- Proved: the last k of 48 symbols have room in the first k of a word (room); copied there from the remainder, they
+-- make the systematic word (encoded).
 use Prim.Native.Nat.{ℕ, _-_, _≤_}
 use mathlib.Core.Path.{_≡_, refl, sym, _∙_, ap, ap₂}
 use mathlib.Core.List.{List, _++_}
@@ -31,7 +31,8 @@ pub room : (k : ℕ) (checks word : List ℕ) → k ≤ 48 → k ≤ length word
     → length (take k word) ≡ length (take (48 - (48 - k)) (drop-list (48 - k) checks))
 room k checks word h l long = length-take-le k word l ∙ sym (top-length k checks h long)
 
-front-all : (n k : ℕ) (t : List ℕ) (w r : Series) → k ≤ 48 → k ≤ n → Table 0 k t → r ≡ remainder (lower (rows k) t) (n - k) (drop k w)
+front-all : (n k : ℕ) (t : List ℕ) (w r : Series) → k ≤ 48 → k ≤ n → Table 0 k t
+    → r ≡ remainder (lower (rows k) t) (n - k) (drop k w)
     → cut k (drop (48 - k) r) ⊞ zpow k ⊠ drop k w ≡ systematic n k w
 front-all n k t w r h l p e =
     shape (cut k w) _ _

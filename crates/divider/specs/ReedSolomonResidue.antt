@@ -3,9 +3,9 @@
 --   residue first n k w   that remainder: the one polynomial of degree below k with the word's values at these roots
 --   Residual first k l r  the array r of 48 symbols holds the remainder of the word l
 --
--- Proved: it has the word's syndromes first to first + k - 1 (residue-syndrome; residue-array and residue-syndromes from an array); it is found by the table
--- (residue-table) and depends on the first n symbols (residue-cong). With the first k roots: a word and its remainder make the systematic word
--- (residue-systematic).
+-- Proved: it has the word's syndromes first to first + k - 1 (residue-syndrome; residue-array and residue-syndromes
+-- from an array); it is found by the table (residue-table) and depends on the first n symbols (residue-cong). With the
+-- first k roots: a word and its remainder make the systematic word (residue-systematic).
 use Prim.Native.Nat.{ℕ, _+_, _-_, _≤_, _<_}
 use mathlib.Core.Path.{_≡_, sym, ap, ap₂, _∙_, fun-ext}
 use mathlib.Core.List.{List}
@@ -39,13 +39,16 @@ pub below-residue : (first n k : ℕ) (w : Series) → below k (residue first n 
 unfolding residue
 below-residue first n k w = below-interpolate k _ _
 
-pub residue-cong : (first n k : ℕ) (f g : Series) → ((i : ℕ) → i < n → f i ≡ g i) → residue first n k f ≡ residue first n k g
+pub residue-cong : (first n k : ℕ) (f g : Series) → ((i : ℕ) → i < n → f i ≡ g i)
+    → residue first n k f ≡ residue first n k g
 unfolding residue
-residue-cong first n k f g same = ap (interpolate k (λ j. root (first + j))) (fun-ext (λ j. syndrome-cong n f g same (first + j)))
+residue-cong first n k f g same =
+    ap (interpolate k (λ j. root (first + j))) (fun-ext (λ j. syndrome-cong n f g same (first + j)))
 
 -- by the table: from what the symbols from k on leave
 pub residue-table : (first n k : ℕ) (t : List ℕ) (w r out : Series) → first + k ≤ 48 → k ≤ n → Table first k t
-    → r ≡ remainder (lower (rows k) t) (n - k) (drop k w) → out ≡ cut k (w ⊞ drop (48 - k) r) → out ≡ residue first n k w
+    → r ≡ remainder (lower (rows k) t) (n - k) (drop k w) → out ≡ cut k (w ⊞ drop (48 - k) r)
+    → out ≡ residue first n k w
 unfolding residue aligned root syndrome
 residue-table first n k t w r out h l p e o =
     interpolate-is k out _ _ (roots-distinct first k (omega arith)) (rw o (below-cut k _)) (λ j b.
@@ -61,15 +64,19 @@ residue-table first n k t w r out h l p e o =
     left : (j : ℕ) → j < k → value k (drop (48 - k) r) (x j) ≡ pow (x j) k ⊙ value (n - k) (drop k w) (x j)
     left j b =
         ap (λ (f : Series). value k (drop (48 - k) f) (x j)) e
-        ∙ remainder-top k (rest first k) (lower (rows k) t) (n - k) (drop k w) (x j) (omega arith) (p .generator) (below-rest first k) (power-nonzero (first + j + 1))
+        ∙ remainder-top k (rest first k) (lower (rows k) t) (n - k) (drop k w) (x j) (omega arith) (p .generator)
+        (below-rest first k) (power-nonzero (first + j + 1))
         (rest-value first k j b)
 
     whole : (j : ℕ) → value n w (x j) ≡ value k w (x j) ⊕ pow (x j) k ⊙ value (n - k) (drop k w) (x j)
     whole j = let e : n ≡ k + (n - k) = omega arith in ap (λ (m : ℕ). value m w (x j)) e ∙ value-split k (n - k) w (x j)
 
-pub residual-table : (first k : ℕ) (t : List ℕ) → first + k ≤ 48 → Table first k t → (l : List ℕ) (r : Series) (out : List ℕ) → k ≤ length l → length out ≡ 48
-    → r ≡ remainder (lower (rows k) t) (length l - k) (drop k (bytes l)) → bytes out ≡ cut k (bytes l ⊞ drop (48 - k) r) → Residual first k l out
-residual-table first k t h p l r out room long e o = record { long = long; is = residue-table first (length l) k t (bytes l) r (bytes out) h room p e o }
+pub residual-table : (first k : ℕ) (t : List ℕ)
+    → first + k ≤ 48 → Table first k t → (l : List ℕ) (r : Series) (out : List ℕ) → k ≤ length l → length out ≡ 48
+    → r ≡ remainder (lower (rows k) t) (length l - k) (drop k (bytes l)) → bytes out ≡ cut k (bytes l ⊞ drop (48 - k) r)
+    → Residual first k l out
+residual-table first k t h p l r out room long e o =
+    record { long = long; is = residue-table first (length l) k t (bytes l) r (bytes out) h room p e o }
 
 module _ (first n k : ℕ) (w : Series) (small : first + k < 255) where
   pub residue-syndrome : (j : ℕ) → j < k → value k (residue first n k w) (root (first + j)) ≡ syndrome n w (first + j)
@@ -91,19 +98,22 @@ module _ (n k : ℕ) (w : Series) (small : k < 255) where
   pub residue-first : (j : ℕ) → j < k → value k (residue 0 n k w) (root j) ≡ syndrome n w j
   residue-first j h =
       let e : 0 + j ≡ j = omega arith in
-      ap (λ (i : ℕ). value k (residue 0 n k w) (root i)) (sym e) ∙ residue-syndrome 0 n k w (omega arith) j h ∙ ap (syndrome n w) e
+      ap (λ (i : ℕ). value k (residue 0 n k w) (root i)) (sym e)
+      ∙ residue-syndrome 0 n k w (omega arith) j h ∙ ap (syndrome n w) e
 
   pub residue-syndromes : (r : List ℕ) → k ≤ length r → bytes r ≡ residue 0 n k w
       → cut k (syndrome (length (take k r)) (bytes (take k r))) ≡ cut k (syndrome n w)
   residue-syndromes r long e =
-      cut-cong k _ _ (λ j h. let z : 0 + j ≡ j = omega arith in rw z at (residue-array 0 n k w (omega arith) r long e j h))
+      cut-cong k _ _
+      (λ j h. let z : 0 + j ≡ j = omega arith in rw z at (residue-array 0 n k w (omega arith) r long e j h))
 
   pub residue-systematic : k ≤ n → w ⊞ residue 0 n k w ≡ systematic n k w
   unfolding systematic upper
   residue-systematic room =
       ap (λ (f : Series). f ⊞ residue 0 n k w) (cut-drop k w)
       ∙ shape (cut k w) (upper k w) (residue 0 n k w)
-      ∙ ap (λ (f : Series). f ⊞ upper k w) (check-symbols-is n k w _ small (below-⊞ k _ _ (below-cut k w) (below-residue 0 n k w)) at-root)
+      ∙ ap (λ (f : Series). f ⊞ upper k w)
+      (check-symbols-is n k w _ small (below-⊞ k _ _ (below-cut k w) (below-residue 0 n k w)) at-root)
     where
       shape : (a b c : Series) → a ⊞ b ⊞ c ≡ a ⊞ c ⊞ b
       shape a b c = simp ⊞-group
@@ -114,5 +124,6 @@ module _ (n k : ℕ) (w : Series) (small : k < 255) where
       at-root : (j : ℕ) → j < k → value k (cut k w ⊞ residue 0 n k w) (root j) ≡ syndrome n (upper k w) j
       at-root j h =
           value-⊞ k _ _ (root j)
-          ∙ ap₂ _⊕_ (sym (low j)) (residue-first j h ∙ ap (λ (f : Series). syndrome n f j) (cut-drop k w) ∙ syndrome-⊞ n _ _ j)
+          ∙ ap₂ _⊕_ (sym (low j))
+          (residue-first j h ∙ ap (λ (f : Series). syndrome n f j) (cut-drop k w) ∙ syndrome-⊞ n _ _ j)
           ∙ simp ⊕-group

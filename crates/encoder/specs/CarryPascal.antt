@@ -4,15 +4,17 @@
 --   gathered n m s l j   the sum of pascal l k times subword j + k of the block s, over the subwords from j on, of m
 --   Gathers ..           the word w is that sum, if l is not above the last one asked for
 --
--- Proved: Pascal's rule makes the quotient (newton-pascal, ratio-pascal), so that a subword with what is carried to it is gathered from 0 on
--- (gathered-corner). A loop over the subwords from the last to the first begins with zeros (gathers-none) and goes on (gathers-first, gathers-next).
+-- Proved: Pascal's rule makes the quotient (newton-pascal, ratio-pascal), so that a subword with what is carried to it
+-- is gathered from 0 on (gathered-corner). A loop over the subwords from the last to the first begins with zeros
+-- (gathers-none) and goes on (gathers-first, gathers-next).
 use Prim.Native.Nat.{ℕ, zero, suc, _+_, _-_, _≤_, _<_}
 use mathlib.Core.Path.{_≡_, refl, sym, ap, ap₂, _∙_, fun-ext}
 use mathlib.Core.List.{List}
 use native.Mathlib.Nat.{zero-add, add-zero, add-suc, suc-add}
 use native.Mathlib.Omega.{arith}
 use lib.ListN.{replicate}
-use Rattle.field.specs.Field.{F, 𝟎, 𝟏, α, _⊕_, _⊙_, zero-⊕, ⊕-comm, zero-⊙, ⊙-one, one-⊙, ⊙-assoc, ⊙-ring, inv, mul-inv, pow, pow-zero, pow-suc}
+use Rattle.field.specs.Field.{F, 𝟎, 𝟏, α, _⊕_, _⊙_, zero-⊕, ⊕-comm, zero-⊙, ⊙-one, one-⊙, ⊙-assoc, ⊙-ring, inv}
+use Rattle.field.specs.Field.{mul-inv, pow, pow-zero, pow-suc}
 use Rattle.series.specs.Sum.{sum, sum-none, sum-head, sum-cong, sum-zero, sum-split, sum-⊕, ⊙-sum, sum-suc}
 use Rattle.series.specs.Series.{Series, O, O-at, K, _⊞_, _⊠_, ⊞-at, ⊞-group, K-⊠-at}
 use Rattle.series.specs.Shift.{cut, cut-⊞, cut-K-⊠}
@@ -40,7 +42,8 @@ newton-shift (suc l) k =
     ∙ ap (λ (t : F). t ⊙ (pow α (suc k) ⊕ pow α (suc l))) (newton-shift l k)
     ∙ rw (newton-suc l k, pow-suc α k, pow-suc α l) (simp ⊙-ring)
 
-pascal-join : (b c m n p x y : F) → n ≡ b ⊙ m → n ⊙ (y ⊕ x) ≡ c ⊙ p → p ≡ x ⊙ m ⊙ (α ⊙ x ⊕ 𝟏) → x ⊙ n ⊙ (α ⊙ y ⊕ 𝟏) ≡ (b ⊕ α ⊙ x ⊙ c) ⊙ p
+pascal-join : (b c m n p x y : F) → n ≡ b ⊙ m → n ⊙ (y ⊕ x) ≡ c ⊙ p → p ≡ x ⊙ m ⊙ (α ⊙ x ⊕ 𝟏)
+    → x ⊙ n ⊙ (α ⊙ y ⊕ 𝟏) ≡ (b ⊕ α ⊙ x ⊙ c) ⊙ p
 pascal-join b c m n p x y en ec ep =
     ap (λ (n : F). x ⊙ n ⊙ (α ⊙ y ⊕ 𝟏)) en
     ∙ sym (draw p ∙ ap₂ (λ (s t : F). b ⊙ s ⊕ α ⊙ x ⊙ t) ep (sym ec ∙ ap (λ (n : F). n ⊙ (y ⊕ x)) en) ∙ simp ⊙-ring)
@@ -56,7 +59,8 @@ newton-pascal (suc l) zero = newton-low (suc l) 0 (omega arith) ∙ sym (zero-�
 newton-pascal (suc l) (suc k) =
     newton-shift l k
     ∙ rw (pow-suc α k, pow-suc α l)
-    (pascal-join (pascal l k) (pascal (suc l) k) (newton l l) (newton l k) (newton (suc l) (suc l)) (pow α l) (pow α k) (newton-pascal l k)
+    (pascal-join (pascal l k) (pascal (suc l) k) (newton l l) (newton l k) (newton (suc l) (suc l)) (pow α l)
+    (pow α k) (newton-pascal l k)
     (sym (newton-suc l k) ∙ newton-pascal (suc l) k) (newton-shift l l ∙ rw (pow-suc α l)))
 
 pub ratio-pascal : (v l k : ℕ) → l < v → l < 255 → ratio v l k ≡ pascal l k
@@ -100,7 +104,8 @@ module _ (n m : ℕ) (s : Series) where
 
   -- the first subword apart
   gathered-head : (l j q : ℕ) → j < m
-      → gathered n m s l j q ≡ pascal l 0 ⊙ subword n s j q ⊕ sum (m - suc j) (λ k. pascal l (suc k) ⊙ subword n s (suc j + k) q)
+      → gathered n m s l j q
+      ≡ pascal l 0 ⊙ subword n s j q ⊕ sum (m - suc j) (λ k. pascal l (suc k) ⊙ subword n s (suc j + k) q)
   unfolding gathered
   gathered-head l j q h =
       let e : m - j ≡ suc (m - suc j) = omega arith in
@@ -113,11 +118,13 @@ module _ (n m : ℕ) (s : Series) where
   gathered-first j h =
       fun-ext (λ q.
       gathered-head 0 j q h
-      ∙ ap₂ (λ (a b : F). a ⊕ b) (rw pascal-none (one-⊙ _)) (sum-cong (m - suc j) _ _ (λ k _. rw (pascal-none, pascal-none)))
+      ∙ ap₂ (λ (a b : F). a ⊕ b) (rw pascal-none (one-⊙ _))
+      (sum-cong (m - suc j) _ _ (λ k _. rw (pascal-none, pascal-none)))
       ∙ ⊕-comm _ _
       ∙ sym (⊞-at _ _ q))
 
-  gathered-next : (l j : ℕ) → j < m → gathered n m s (suc l) j ≡ K (pow α (suc l)) ⊠ gathered n m s (suc l) (suc j) ⊞ gathered n m s l (suc j)
+  gathered-next : (l j : ℕ) → j < m
+      → gathered n m s (suc l) j ≡ K (pow α (suc l)) ⊠ gathered n m s (suc l) (suc j) ⊞ gathered n m s l (suc j)
   unfolding gathered
   gathered-next l j h =
       fun-ext (λ q.
@@ -146,18 +153,21 @@ module _ (n m : ℕ) (s : Series) where
   pub gathers-none : (last l r : ℕ) → Gathers last l m (replicate r 0)
   gathers-none last l r h = zeros r ∙ sym (ap (cut n) (gathered-none l) ∙ below-cut-eq n O (below-O n))
 
-  pub gathers-first : (last i j : ℕ) (w v : List ℕ) → j ≡ suc i → i < m → Gathers last 0 j w → bytes v ≡ bytes w ⊞ cut n (subword n s i) → Gathers last 0 i v
+  pub gathers-first : (last i j : ℕ) (w v : List ℕ)
+      → j ≡ suc i → i < m → Gathers last 0 j w → bytes v ≡ bytes w ⊞ cut n (subword n s i) → Gathers last 0 i v
   gathers-first last i j w v e h g ev _ =
       ev
       ∙ ap (λ (f : Series). f ⊞ cut n (subword n s i)) (g (omega arith) ∙ ap (λ j. cut n (gathered n m s 0 j)) e)
       ∙ sym (ap (cut n) (gathered-first i h) ∙ cut-⊞ n _ _)
 
-  pub gathers-next : (last l i j : ℕ) (u w v : List ℕ) → j ≡ suc i → i < m → Gathers last l j u → Gathers last (suc l) j w
+  pub gathers-next : (last l i j : ℕ) (u w v : List ℕ) → j ≡ suc i → i < m → Gathers last l j u
+      → Gathers last (suc l) j w
       → (suc l ≤ last → bytes v ≡ K (pow α (suc l)) ⊠ bytes w ⊞ bytes u) → Gathers last (suc l) i v
   gathers-next last l i j u w v e h gu gw ev a =
       ev a
       ∙ ap₂ (λ (f g : Series). K (pow α (suc l)) ⊠ f ⊞ g) (gw a ∙ at (suc l)) (gu (omega arith) ∙ at l)
-      ∙ sym (ap (cut n) (gathered-next l i h) ∙ cut-⊞ n _ _ ∙ ap (λ (f : Series). f ⊞ cut n (gathered n m s l (suc i))) (cut-K-⊠ n _ _))
+      ∙ sym (ap (cut n) (gathered-next l i h) ∙ cut-⊞ n _ _
+      ∙ ap (λ (f : Series). f ⊞ cut n (gathered n m s l (suc i))) (cut-K-⊠ n _ _))
     where
       at : (l : ℕ) → cut n (gathered n m s l j) ≡ cut n (gathered n m s l (suc i))
       at l = ap (λ j. cut n (gathered n m s l j)) e
@@ -177,12 +187,15 @@ gathered-corner p s i h l small =
     own : (q : ℕ) → sum (suc i) (λ k. pascal i k ⊙ subword (p .length) s (0 + k) q) ≡ subword (p .length) s i q
     own q =
         sum-suc i _
-        ∙ ap₂ (λ (a b : F). a ⊕ b) (sum-zero i _ (λ k l. rw (pascal-low i k l) (zero-⊙ _))) (rw (pascal-one, zero-add) (one-⊙ _))
+        ∙ ap₂ (λ (a b : F). a ⊕ b) (sum-zero i _ (λ k l. rw (pascal-low i k l) (zero-⊙ _)))
+        (rw (pascal-one, zero-add) (one-⊙ _))
         ∙ zero-⊕ _
 
-    rest : (q : ℕ) → sum (p .subwords - suc i) (λ k. pascal i (suc i + k) ⊙ subword (p .length) s (0 + (suc i + k)) q) ≡ carried p s i q
+    rest : (q : ℕ) → sum (p .subwords - suc i) (λ k. pascal i (suc i + k) ⊙ subword (p .length) s (0 + (suc i + k)) q)
+        ≡ carried p s i q
     rest q =
-        sum-cong (p .subwords - suc i) _ _ (λ k _. rw (zero-add, ratio-pascal (p .nested) i (suc i + k) h small)) ∙ sym (carried-at p s i q)
+        sum-cong (p .subwords - suc i) _ _ (λ k _. rw (zero-add, ratio-pascal (p .nested) i (suc i + k) h small))
+        ∙ sym (carried-at p s i q)
 
 -- the loop has ended, and sum l is the one that was asked for
 pub gathers-all : (p : Profile) → Valid p → (s : Series) (i l j : ℕ) (w : List ℕ) → i < p .nested → l ≡ i → j ≡ 0
@@ -195,4 +208,5 @@ gathers-all p ok s i l j w h el ej g =
 -- the subword itself taken away
 pub carried-is : (p : Profile) (s : Series) (i : ℕ) (w v : List ℕ) → bytes w ≡ cut (p .length) (corner p s i)
     → bytes v ≡ bytes w ⊞ cut (p .length) (subword (p .length) s i) → bytes v ≡ cut (p .length) (carried p s i)
-carried-is p s i w v ew ev = ev ∙ ap (λ (f : Series). f ⊞ cut (p .length) (subword (p .length) s i)) (ew ∙ cut-⊞ (p .length) _ _) ∙ simp ⊞-group
+carried-is p s i w v ew ev =
+    ev ∙ ap (λ (f : Series). f ⊞ cut (p .length) (subword (p .length) s i)) (ew ∙ cut-⊞ (p .length) _ _) ∙ simp ⊞-group

@@ -20,12 +20,14 @@ module _ (c : F) (f g : Series) where
   pub rise-none : f ≡ f ⊞ K 𝟏 ⊠ cut 0 (change c f g)
   rise-none = multiple-none 𝟏 f _
 
-  pub rise-more : (w : List ℕ) (q v : ℕ) → q < length w → bytes w ≡ f ⊞ K 𝟏 ⊠ cut q (change c f g) → of v ≡ c ⊙ bytes w q ⊕ g q
+  pub rise-more : (w : List ℕ) (q v : ℕ) → q < length w → bytes w ≡ f ⊞ K 𝟏 ⊠ cut q (change c f g)
+      → of v ≡ c ⊙ bytes w q ⊕ g q
       → bytes (set w q v) ≡ f ⊞ K 𝟏 ⊠ cut (q + 1) (change c f g)
   unfolding change
   rise-more w q v h e ev =
       multiple-more w q v 𝟏 f _ h e
-      (ev ∙ ap (λ (t : F). c ⊙ t ⊕ g q) old ∙ sum (f q) (g q) ∙ ap₂ (λ (t u : F). t ⊕ 𝟏 ⊙ u) (sym old) (sym (⊞-at _ _ q ∙ ap (λ (t : F). t ⊕ g q) (K-⊠-at _ _ q))))
+      (ev ∙ ap (λ (t : F). c ⊙ t ⊕ g q) old ∙ sum (f q) (g q)
+      ∙ ap₂ (λ (t u : F). t ⊕ 𝟏 ⊙ u) (sym old) (sym (⊞-at _ _ q ∙ ap (λ (t : F). t ⊕ g q) (K-⊠-at _ _ q))))
     where
       old : bytes w q ≡ f q
       old = ap (λ (g : Series). g q) e ∙ rw (⊞-at, K-⊠-at, cut-high q _ q (omega arith), ⊙-zero) (⊕-zero (f q))

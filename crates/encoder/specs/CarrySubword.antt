@@ -37,7 +37,8 @@ pub placed-none : (k : ℕ) (d e w : List ℕ) → Placed k 0 d e w
 unfolding Placed
 placed-none k d e w i h = absurd (omega arith)
 
-pub placed-more : (k q v : ℕ) (d e w : List ℕ) → k + q < length w → of v ≡ bytes d q ⊕ bytes e (k + q) → Placed k q d e w
+pub placed-more : (k q v : ℕ) (d e w : List ℕ)
+    → k + q < length w → of v ≡ bytes d q ⊕ bytes e (k + q) → Placed k q d e w
     → Placed k (q + 1) d e (set w (k + q) v)
 unfolding Placed
 placed-more k q v d e w h ev p i l = go (ℕ-discrete i q)
@@ -46,17 +47,20 @@ placed-more k q v d e w h ev p i l = go (ℕ-discrete i q)
     go (yes s) = rw s (read-set-same of 0 w (k + q) v h ∙ ev)
     go (no s) = read-set-other of 0 w (k + q) (k + i) v (λ f. s (omega arith)) ∙ p i (omega arith)
 
-pub placed-all : (k q : ℕ) (d e w : List ℕ) → length d ≤ q → length w ≡ k + length d → length e ≡ length w → Placed k q d e w
+pub placed-all : (k q : ℕ) (d e w : List ℕ)
+    → length d ≤ q → length w ≡ k + length d → length e ≡ length w → Placed k q d e w
     → drop k (bytes w) ≡ bytes d ⊞ drop k (bytes e)
 unfolding Placed
-placed-all k q d e w h lw le p = fun-ext (λ i. drop-at k _ i ∙ go i (decLt i (length d)) ∙ sym (⊞-at _ _ i ∙ ap (λ t. bytes d i ⊕ t) (drop-at k _ i)))
+placed-all k q d e w h lw le p = fun-ext (λ i.
+    drop-at k _ i ∙ go i (decLt i (length d)) ∙ sym (⊞-at _ _ i ∙ ap (λ t. bytes d i ⊕ t) (drop-at k _ i)))
   where
     past : (l : List ℕ) (i : ℕ) → length l ≤ i → bytes l i ≡ 𝟎
     past l i = below-read of 0 of-zero l i
 
     go : (i : ℕ) → Dec (i < length d) → bytes w (k + i) ≡ bytes d i ⊕ bytes e (k + i)
     go i (yes l) = p i (omega arith)
-    go i (no l) = past w (k + i) (omega arith) ∙ sym (ap₂ _⊕_ (past d i (omega arith)) (past e (k + i) (omega arith)) ∙ ⊕-zero 𝟎)
+    go i (no l) = past w (k + i) (omega arith)
+        ∙ sym (ap₂ _⊕_ (past d i (omega arith)) (past e (k + i) (omega arith)) ∙ ⊕-zero 𝟎)
 
 -- check symbols depend on what stands from position k on
 systematic-drop : (n k : ℕ) (f g : Series) → drop k f ≡ drop k g → systematic n k f ≡ systematic n k g
@@ -74,7 +78,8 @@ unfolding filled
 filled-is k d e w a s r la ea es er =
     er
     ∙ ap (λ (f : Series). f ⊞ bytes e)
-    (es ∙ systematic-drop (length a) k _ (zpow k ⊠ bytes d ⊞ bytes e) same ∙ ap (λ n. systematic n k (zpow k ⊠ bytes d ⊞ bytes e)) la)
+    (es ∙ systematic-drop (length a) k _ (zpow k ⊠ bytes d ⊞ bytes e) same
+    ∙ ap (λ n. systematic n k (zpow k ⊠ bytes d ⊞ bytes e)) la)
   where
     same : drop k (bytes a) ≡ drop k (zpow k ⊠ bytes d ⊞ bytes e)
     same = ea ∙ ap (λ (f : Series). f ⊞ drop k (bytes e)) (sym (drop-zpow k (bytes d))) ∙ sym (drop-⊞ k _ _)
@@ -83,7 +88,8 @@ filled-is k d e w a s r la ea es er =
 
 -- subword i was written, d being its data
 pub record Wrote (p : Profile) (d : Series) (i : ℕ) (old new : Series) : Type 0 where
-  pub here : (q : ℕ) → q < p .length → subword (p .length) new i q ≡ filled (p .length) (checks p i) d (cut (p .length) (carried p old i)) q
+  pub here : (q : ℕ) → q < p .length
+      → subword (p .length) new i q ≡ filled (p .length) (checks p i) d (cut (p .length) (carried p old i)) q
   pub above : Agree p (suc i) old new
 
 -- the part of the block that subword i is, filled, k and n being the numbers that the code has
@@ -103,10 +109,14 @@ wrote-is p i k l m d s y c hs ek el em ly lc ec ey = record { here = here; above
     is : bytes y ≡ filled n (checks p i) d (cut n (carried p (bytes s) i))
     is = ey ∙ ap₂ (λ l k. filled l k d (bytes (take n c))) el ek ∙ ap (filled n (checks p i) d) carry
 
-    here : (q : ℕ) → q < n → bytes (splice (i * n) m y s) (i * n + q) ≡ filled n (checks p i) d (cut n (carried p (bytes s) i)) q
-    here q h = splice-inside of 0 (i * n) m y s (omega arith) (ly ∙ sym em) q (omega arith) ∙ ap (λ (f : Series). f q) is
+    here : (q : ℕ) → q < n
+        → bytes (splice (i * n) m y s) (i * n + q) ≡ filled n (checks p i) d (cut n (carried p (bytes s) i)) q
+    here q h = splice-inside of 0 (i * n) m y s (omega arith) (ly ∙ sym em) q (omega arith)
+        ∙ ap (λ (f : Series). f q) is
 
-    above : (j : ℕ) → suc i ≤ j → j < p .subwords → (q : ℕ) → q < n → bytes s (j * n + q) ≡ bytes (splice (i * n) m y s) (j * n + q)
+    above : (j : ℕ) → suc i ≤ j → j < p .subwords → (q : ℕ) → q < n
+        → bytes s (j * n + q) ≡ bytes (splice (i * n) m y s) (j * n + q)
     above j h u q v =
         let e : suc i * n ≤ j * n = mul-le-mul-right n h in
-        sym (splice-after of 0 (i * n) m y s (omega arith) (ly ∙ sym em) (j * n + q) (omega (arith, e, suc-mul i n, em)))
+        sym (splice-after of 0 (i * n) m y s (omega arith) (ly ∙ sym em) (j * n + q)
+        (omega (arith, e, suc-mul i n, em)))

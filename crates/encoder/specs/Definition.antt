@@ -1,6 +1,7 @@
 -- What is written: the one codeword with the data, or nothing: FORMAT 3 and 4.
 --
---   written a d o     what the output holds in the end, a being the answer to the questions, d the data and o what it held before
+--   written a d o     what the output holds in the end, a being the answer to the questions, d the data and o what it
+--                     held before
 use Prim.Native.Nat.{ℕ}
 use mathlib.Core.List.{List, map}
 use mathlib.Core.Option.{Option, none, some}

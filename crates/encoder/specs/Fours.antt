@@ -1,7 +1,9 @@
 -- Four subwords at a time.
 --
---   Known n k d r                   r holds the remainder of the word of n symbols that has k check symbols, not yet found, and the data d
---   WroteFour p a b c d i s t       the block t is the block s with subwords i to i + 3 written, a to d being their data
+--   Known n k d r                   r holds the remainder of the word of n symbols that has k check symbols, not yet
+--                                   found, and the data d
+--   WroteFour p a b c d i s t       the block t is the block s with subwords i to i + 3 written, a to d being
+--                                   their data
 use Prim.Native.Nat.{ℕ, suc, _+_, _-_, _*_, _≤_, _<_}
 use mathlib.Core.Path.{_≡_, refl, sym, ap, ap₂, subst, _∙_}
 use mathlib.Core.List.{List}
@@ -38,10 +40,12 @@ pub record WroteFour (p : Profile) (a b c d : Series) (i : ℕ) (old new : Serie
   pub at-0 : Wrote p a i third new
 
 padded-below : (n k : ℕ) (d : List ℕ) → k + length d ≡ n → below n (zpow k ⊠ bytes d)
-padded-below n k d e = below-⊠ (suc k) (length d) n (zpow k) (bytes d) (below-zpow k) (below-read of 0 of-zero d) (omega arith)
+padded-below n k d e =
+    below-⊠ (suc k) (length d) n (zpow k) (bytes d) (below-zpow k) (below-read of 0 of-zero d) (omega arith)
 
 -- the word w holds the data, zeros before and after; its first n symbols are taken
-pub known-is : (n k : ℕ) (d w r : List ℕ) → k + length d ≡ n → n ≤ length w → bytes w ≡ zpow k ⊠ bytes d → Residual 0 k (take n w) r → Known n k d r
+pub known-is : (n k : ℕ) (d w r : List ℕ)
+    → k + length d ≡ n → n ≤ length w → bytes w ≡ zpow k ⊠ bytes d → Residual 0 k (take n w) r → Known n k d r
 known-is n k d w r e h ew p = record {
   long = p .long;
   is =
@@ -51,14 +55,17 @@ known-is n k d w r e h ew p = record {
 }
 
 -- the word with its remainder added goes to subword i, to which nothing is carried
-pub known-wrote : (p : Profile) (i k m : ℕ) (d s y w r : List ℕ) → Fits p s → p .nested ≤ i → i < p .subwords → k ≡ checks p i → length d ≡ data-length p i
-    → m ≡ p .length → length y ≡ p .length → length w ≡ 255 → Known (p .length) k d r → bytes w ≡ zpow k ⊠ bytes d ⊞ zpow 0 ⊠ bytes r
+pub known-wrote : (p : Profile) (i k m : ℕ) (d s y w r : List ℕ)
+    → Fits p s → p .nested ≤ i → i < p .subwords → k ≡ checks p i → length d ≡ data-length p i
+    → m ≡ p .length → length y ≡ p .length → length w ≡ 255 → Known (p .length) k d r
+    → bytes w ≡ zpow k ⊠ bytes d ⊞ zpow 0 ⊠ bytes r
     → drop 0 (bytes y) ≡ bytes (take (p .length) w) ⊞ drop 0 (bytes (take (p .length) (replicate 255 0)))
     → Wrote p (bytes d) i (bytes s) (bytes (splice (i * p .length) m y s))
 unfolding filled
 known-wrote p i k m d s y w r fits high h ek ed em ly lw kn ew ey =
     wrote-is p i k (p .length) m (bytes d) s y (replicate 255 0) (inside p s i fits h .0) ek refl em ly
-    (omega (arith, fits .valid .length, length-replicate {A = ℕ} 255 0)) (carried-none p (bytes s) i 255 high) (same ∙ sym none)
+    (omega (arith, fits .valid .length, length-replicate {A = ℕ} 255 0))
+    (carried-none p (bytes s) i 255 high) (same ∙ sym none)
   where
     n : ℕ
     n = p .length
@@ -75,7 +82,8 @@ known-wrote p i k m d s y w r fits high h ek ed em ly lw kn ew ey =
     sum : zpow k ⊠ bytes d ⊞ zpow 0 ⊠ bytes r ≡ systematic n k (zpow k ⊠ bytes d)
     sum =
         ap (λ (f : Series). zpow k ⊠ bytes d ⊞ f) (ap (λ (f : Series). f ⊠ bytes r) zpow-zero ∙ one-⊠ _ ∙ kn .is)
-        ∙ residue-systematic n k (zpow k ⊠ bytes d) (omega (arith, ek, checks-most p (fits .valid) i)) (omega (arith, all))
+        ∙ residue-systematic n k (zpow k ⊠ bytes d)
+        (omega (arith, ek, checks-most p (fits .valid) i)) (omega (arith, all))
 
     small : below n (zpow k ⊠ bytes d ⊞ residue 0 n k (zpow k ⊠ bytes d))
     small = below-⊞ n _ _ (padded-below n k d all) (below-weaken k n _ (below-residue 0 n k _) (omega (arith, all)))
@@ -84,16 +92,21 @@ known-wrote p i k m d s y w r fits high h ek ed em ly lw kn ew ey =
     same =
         sym (drop-none (bytes y))
         ∙ ey
-        ∙ ap₂ (λ (f g : Series). f ⊞ g) (read-prefix of 0 of-zero n w (omega arith) ∙ ap (cut n) (ew ∙ sum)) (drop-none _ ∙ zero)
+        ∙ ap₂ (λ (f g : Series). f ⊞ g)
+        (read-prefix of 0 of-zero n w (omega arith) ∙ ap (cut n) (ew ∙ sum)) (drop-none _ ∙ zero)
         ∙ ⊞-zero _
-        ∙ below-cut-eq n _ (subst (below n) (residue-systematic n k (zpow k ⊠ bytes d) (omega (arith, ek, checks-most p (fits .valid) i)) (omega (arith, all))) small)
+        ∙ below-cut-eq n _ (subst (below n) (residue-systematic n k (zpow k ⊠ bytes d)
+        (omega (arith, ek, checks-most p (fits .valid) i)) (omega (arith, all))) small)
 
     none : filled n k (bytes d) (bytes (take n (replicate 255 0))) ≡ systematic n k (zpow k ⊠ bytes d)
-    none = ap (λ (e : Series). systematic n k (zpow k ⊠ bytes d ⊞ e) ⊞ e) zero ∙ ⊞-zero _ ∙ ap (systematic n k) (⊞-zero _)
+    none = ap (λ (e : Series). systematic n k (zpow k ⊠ bytes d ⊞ e) ⊞ e) zero ∙ ⊞-zero _
+        ∙ ap (systematic n k) (⊞-zero _)
 
 -- all subwords from v on are alike: what is known at i serves j subwords above it
-pub known-above : (p : Profile) (i j k : ℕ) (d r s : List ℕ) → Fits p s → p .nested ≤ i → i + j < p .subwords → k ≡ checks p i → length d ≡ data-length p i → Known (p .length) k d r
-    → Fits p s × (p .nested ≤ i + j) × (i + j < p .subwords) × (k ≡ checks p (i + j)) × (length d ≡ data-length p (i + j)) × Known (p .length) k d r
+pub known-above : (p : Profile) (i j k : ℕ) (d r s : List ℕ) → Fits p s → p .nested ≤ i → i + j < p .subwords
+    → k ≡ checks p i → length d ≡ data-length p i → Known (p .length) k d r
+    → Fits p s × (p .nested ≤ i + j) × (i + j < p .subwords) × (k ≡ checks p (i + j))
+    × (length d ≡ data-length p (i + j)) × Known (p .length) k d r
 known-above p i j k d r s fits high h ek ed known =
     let same : checks p (i + j) ≡ checks p i = checks-high p (i + j) (omega arith) ∙ sym (checks-high p i high) in
     (fits, omega arith, h, ek ∙ sym same, ed ∙ ap (λ c. p .length - c) (sym same), known)

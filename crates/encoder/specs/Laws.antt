@@ -14,7 +14,8 @@ use Rattle.code.specs.Encoding.{encoding-bytes}
 use Rattle.encoder.specs.Definition.{written, found}
 
 -- a block of bytes that encodes the data is what is written
-pub written-is : (p : Profile) → Valid p → (a : Parsed) (d o s : List ℕ) → a ≡ Accepted p → length s ≡ block-size p → ((i : ℕ) → getD s i 0 < 256)
+pub written-is : (p : Profile) → Valid p → (a : Parsed) (d o s : List ℕ) → a ≡ Accepted p → length s ≡ block-size p
+    → ((i : ℕ) → getD s i 0 < 256)
     → Encodes p (bytes d) (bytes s) → s ≡ written a d o
 written-is p ok a d o s e l small code =
     sym (ap (λ a. written a d o) e ∙ ap (found o) (encoding-bytes p ok d s l code) ∙ bytes-back s small)

@@ -25,10 +25,12 @@ use Rattle.encoder.specs.Fours.{WroteFour}
 -- ---- from the last subword to the first
 
 -- a subword that was written is right for the data D of the whole block
-wrote-right : (p : Profile) → Valid p → (d D old new : Series) (i : ℕ) → ((q : ℕ) → q < data-length p i → d q ≡ D (data-start p i + q))
+wrote-right : (p : Profile) → Valid p → (d D old new : Series) (i : ℕ)
+    → ((q : ℕ) → q < data-length p i → d q ≡ D (data-start p i + q))
     → Wrote p d i old new → Right p D new i
 unfolding filled
-wrote-right p ok d D old new i part w = right-step p ok D new c x i carry given (λ q l. w .here q l ∙ ⊞-at _ _ q ∙ ⊕-comm _ _)
+wrote-right p ok d D old new i part w =
+    right-step p ok D new c x i carry given (λ q l. w .here q l ∙ ⊞-at _ _ q ∙ ⊕-comm _ _)
   where
     c : Series
     c = cut (p .length) (carried p old i)
@@ -46,7 +48,8 @@ wrote-right p ok d D old new i part w = right-step p ok D new c x i carry given 
 abbrev pub Upper : Profile → Series → Series → ℕ → Type 0
 Upper p D s i = (k : ℕ) → i ≤ k → k < p .subwords → Right p D s k
 
-pub upper-next : (p : Profile) → Valid p → (d D old new : Series) (i : ℕ) → ((q : ℕ) → q < data-length p i → d q ≡ D (data-start p i + q))
+pub upper-next : (p : Profile) → Valid p → (d D old new : Series) (i : ℕ)
+    → ((q : ℕ) → q < data-length p i → d q ≡ D (data-start p i + q))
     → Wrote p d i old new → Upper p D old (suc i) → Upper p D new i
 upper-next p ok d D old new i part w u k h l = go (ℕ-discrete k i)
   where
@@ -63,7 +66,8 @@ pub record Stretch (p : Profile) (l i k end : ℕ) : Type 0 where
   pub size : end - (end - (p .length - k)) ≡ data-length p i
   pub end-le : end ≤ l
 
-pub stretch : (p : Profile) → Valid p → (l i k end : ℕ) → 0 < i → i ≤ p .subwords → l ≡ data-size p → k ≡ checks p (i - 1) → end ≡ data-start p i
+pub stretch : (p : Profile) → Valid p → (l i k end : ℕ)
+    → 0 < i → i ≤ p .subwords → l ≡ data-size p → k ≡ checks p (i - 1) → end ≡ data-start p i
     → Stretch p l (i - 1) k end
 stretch p ok l zero k end h m el ek ee = absurd (omega arith)
 stretch p ok l (suc i) k end h m el ek ee =
@@ -82,17 +86,20 @@ stretch p ok l (suc i) k end h m el ek ee =
 pub part-data : (p : Profile) (i a m : ℕ) (d : List ℕ) → a ≡ data-start p i → m ≡ data-length p i → a + m ≤ length d
     → (q : ℕ) → q < data-length p i → bytes (take m (drop-list a d)) q ≡ bytes d (data-start p i + q)
 part-data p i a m d ea em h q l =
-    ap (λ (f : Series). f q) (read-part of 0 of-zero a m d h) ∙ cut-low m _ q (omega arith) ∙ drop-at a _ q ∙ ap (λ a. bytes d (a + q)) ea
+    ap (λ (f : Series). f q) (read-part of 0 of-zero a m d h) ∙ cut-low m _ q (omega arith) ∙ drop-at a _ q
+    ∙ ap (λ a. bytes d (a + q)) ea
 
 -- ---- four subwords at a stretch
 
 -- one subword back: where its data start, all subwords from v on having as many
-back : (p : Profile) (i j one end : ℕ) → j ≡ suc i → one ≡ data-length p i → end ≡ data-start p j → (one ≤ end) × (end - one ≡ data-start p i)
+back : (p : Profile) (i j one end : ℕ) → j ≡ suc i → one ≡ data-length p i → end ≡ data-start p j
+    → (one ≤ end) × (end - one ≡ data-start p i)
 back p i j one end e eo ee =
     let f : end ≡ data-start p i + data-length p i = ee ∙ ap (data-start p) e in
     (omega arith, omega arith)
 
--- where the data of subwords i to i + 3 start, l data symbols being given in all and those of subword i + 3 ending at `end`
+-- where the data of subwords i to i + 3 start, l data symbols being given in all and those of subword i + 3
+-- ending at `end`
 pub record Quarters (p : Profile) (l i one end : ℕ) : Type 0 where
   pub less : i + 4 ≤ p .subwords
   pub lengths : (j : ℕ) → i ≤ j → one ≡ data-length p j
@@ -107,13 +114,17 @@ pub record Quarters (p : Profile) (l i one end : ℕ) : Type 0 where
   pub a : end - one - one - one - one ≡ data-start p i
   pub end-le : end ≤ l
 
-pub quarters : (p : Profile) → Valid p → (l i k end : ℕ) → p .nested + 4 ≤ i → i ≤ p .subwords → l ≡ data-size p → k ≡ checks p (p .nested) → end ≡ data-start p i
+pub quarters : (p : Profile) → Valid p → (l i k end : ℕ)
+    → p .nested + 4 ≤ i → i ≤ p .subwords → l ≡ data-size p → k ≡ checks p (p .nested) → end ≡ data-start p i
     → Quarters p l (i - 4) (p .length - k) end
 quarters p ok l i k end h m el ek ee =
     let d = back p (i - 4 + 3) i (p .length - k) end (omega arith) (lengths (i - 4 + 3) (omega arith)) ee in
-    let c = back p (i - 4 + 2) (i - 4 + 3) (p .length - k) (end - (p .length - k)) (omega arith) (lengths (i - 4 + 2) (omega arith)) (d .1) in
-    let b = back p (i - 4 + 1) (i - 4 + 2) (p .length - k) (end - (p .length - k) - (p .length - k)) (omega arith) (lengths (i - 4 + 1) (omega arith)) (c .1) in
-    let a = back p (i - 4) (i - 4 + 1) (p .length - k) (end - (p .length - k) - (p .length - k) - (p .length - k)) (omega arith) (lengths (i - 4) (omega arith)) (b .1) in
+    let c = back p (i - 4 + 2) (i - 4 + 3) (p .length - k) (end - (p .length - k)) (omega arith)
+    (lengths (i - 4 + 2) (omega arith)) (d .1) in
+    let b = back p (i - 4 + 1) (i - 4 + 2) (p .length - k) (end - (p .length - k) - (p .length - k)) (omega arith)
+    (lengths (i - 4 + 1) (omega arith)) (c .1) in
+    let a = back p (i - 4) (i - 4 + 1) (p .length - k) (end - (p .length - k) - (p .length - k) - (p .length - k))
+    (omega arith) (lengths (i - 4) (omega arith)) (b .1) in
     record {
       less = omega arith;
       lengths = lengths;
@@ -130,13 +141,17 @@ quarters p ok l i k end h m el ek ee =
     }
   where
     lengths : (j : ℕ) → i - 4 ≤ j → p .length - k ≡ data-length p j
-    lengths j u = ap (λ c. p .length - c) (ek ∙ checks-high p (p .nested) (omega arith) ∙ sym (checks-high p j (omega arith)))
+    lengths j u =
+        ap (λ c. p .length - c) (ek ∙ checks-high p (p .nested) (omega arith) ∙ sym (checks-high p j (omega arith)))
 
 pub upper-four : (p : Profile) → Valid p → (a b c d D old new : Series) (i : ℕ)
-    → ((q : ℕ) → q < data-length p i → a q ≡ D (data-start p i + q)) → ((q : ℕ) → q < data-length p (i + 1) → b q ≡ D (data-start p (i + 1) + q))
-    → ((q : ℕ) → q < data-length p (i + 2) → c q ≡ D (data-start p (i + 2) + q)) → ((q : ℕ) → q < data-length p (i + 3) → d q ≡ D (data-start p (i + 3) + q))
+    → ((q : ℕ) → q < data-length p i → a q ≡ D (data-start p i + q))
+    → ((q : ℕ) → q < data-length p (i + 1) → b q ≡ D (data-start p (i + 1) + q))
+    → ((q : ℕ) → q < data-length p (i + 2) → c q ≡ D (data-start p (i + 2) + q))
+    → ((q : ℕ) → q < data-length p (i + 3) → d q ≡ D (data-start p (i + 3) + q))
     → WroteFour p a b c d i old new → Upper p D old (i + 4) → Upper p D new i
-upper-four p ok a b c d D old new i pa pb pc pd w u = upper-next p ok a D _ new i pa (w .at-0) (λ k h l. u1 k (omega arith) l)
+upper-four p ok a b c d D old new i pa pb pc pd w u =
+    upper-next p ok a D _ new i pa (w .at-0) (λ k h l. u1 k (omega arith) l)
   where
     u3 : Upper p D (w .first) (i + 3)
     u3 = upper-next p ok d D old _ (i + 3) pd (w .at-3) (λ k h l. u k (omega arith) l)
@@ -150,11 +165,13 @@ upper-four p ok a b c d D old new i pa pb pc pd w u = upper-next p ok a D _ new 
 pub checks-above : (p : Profile) (i k : ℕ) → p .nested ≤ i → k ≡ checks p (p .nested) → k ≡ checks p i
 checks-above p i k h e = e ∙ checks-high p (p .nested) (omega arith) ∙ sym (checks-high p i h)
 
-pub quarter-length : (a b one r : ℕ) (d : List ℕ) → a ≡ b - one → one ≤ b → b ≤ length d → one ≡ r → length (take (b - a) (drop-list a d)) ≡ r
+pub quarter-length : (a b one r : ℕ) (d : List ℕ) → a ≡ b - one → one ≤ b → b ≤ length d → one ≡ r
+    → length (take (b - a) (drop-list a d)) ≡ r
 quarter-length a b one r d ea h l er =
     let fits : b - a ≤ length (drop-list a d) = omega (arith, length-drop a d) in
     length-take-le (b - a) (drop-list a d) fits ∙ omega arith
 
-pub quarter-data : (p : Profile) (i a b one : ℕ) (d : List ℕ) → a ≡ b - one → one ≤ b → b ≤ length d → one ≡ data-length p i → a ≡ data-start p i
+pub quarter-data : (p : Profile) (i a b one : ℕ) (d : List ℕ)
+    → a ≡ b - one → one ≤ b → b ≤ length d → one ≡ data-length p i → a ≡ data-start p i
     → (q : ℕ) → q < data-length p i → bytes (take (b - a) (drop-list a d)) q ≡ bytes d (data-start p i + q)
 quarter-data p i a b one d ea h l er es = part-data p i a (b - a) d es (omega arith) (omega arith)

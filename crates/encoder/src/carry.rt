@@ -1,4 +1,5 @@
-// One subword, written once those above it are: it is e plus the Reed-Solomon word of the data plus e, e being what the subwords above bring to it.
+// One subword, written once those above it are: it is e plus the Reed-Solomon word of the data plus e, e being what the
+// subwords above bring to it.
 ghost use Prim.Native.Nat.{_+_, _≤_, _<_};
 ghost use mathlib.Core.Path.{_≡_};
 ghost use lib.ListN.{length};
@@ -26,10 +27,12 @@ fn raised(l: usize, x: u8) -> u8
     kernel::twice(y)
 }
 
-// A step of Pascal's rule: α^l times the word, and another word. Nothing is promised of a word past the last one that is asked for.
+// A step of Pascal's rule: α^l times the word, and another word. Nothing is promised of a word past the last one that
+// is asked for.
 fn rise(l: usize, last: usize, from: &[u8], word: &mut [u8])
     requires { ⌜ (1 ≤ l) × (l ≤ 2) × (length (now from) ≡ length (now word)) ⌝ }
-    ensures { λ _. ⌜ (l ≤ last → bytes (now (word .exit)) ≡ K (pow α l) ⊠ bytes (now (word .entry)) ⊞ bytes (now (from .entry))) ⌝ }
+    ensures { λ _. ⌜ (l ≤ last
+        → bytes (now (word .exit)) ≡ K (pow α l) ⊠ bytes (now (word .entry)) ⊞ bytes (now (from .entry))) ⌝ }
 {
     if last < l {
         return;
@@ -41,8 +44,8 @@ fn rise(l: usize, last: usize, from: &[u8], word: &mut [u8])
     }
 }
 
-// Subword i with what the subwords above bring to it, i below v. By Pascal's rule, from the last subword to the first: that takes doublings only, and the
-// subwords below i fall out.
+// Subword i with what the subwords above bring to it, i below v. By Pascal's rule, from the last subword to the first:
+// that takes doublings only, and the subwords below i fall out.
 fn corner(p: Profile, i: usize, block: &[u8]) -> [u8; POSITIONS]
     requires { ⌜ Fits p (now block) × (i < p .nested) ⌝ }
     ensures { λ r. ⌜ bytes r ≡ cut (p .length) (Corner p (bytes (now (block .entry))) i) ⌝ }
@@ -82,7 +85,8 @@ fn carried(p: Profile, i: usize, block: &[u8]) -> [u8; POSITIONS]
 // The data plus e, from position k on.
 pub fn place(k: usize, e: &[u8], input: &[u8], word: &mut [u8])
     requires { ⌜ (length (now word) ≡ k + length (now input)) × (length (now e) ≡ length (now word)) ⌝ }
-    ensures { λ _. ⌜ drop k (bytes (now (word .exit))) ≡ bytes (now (input .entry)) ⊞ drop k (bytes (now (e .entry))) ⌝ }
+    ensures { λ _. ⌜ drop k (bytes (now (word .exit))) ≡
+        bytes (now (input .entry)) ⊞ drop k (bytes (now (e .entry))) ⌝ }
 {
     let mut q: usize = 0;
     while q < input.len() {
@@ -93,8 +97,10 @@ pub fn place(k: usize, e: &[u8], input: &[u8], word: &mut [u8])
 
 // The word is e plus the Reed-Solomon word of the data plus e.
 fn fill(t: &[u64], k: usize, e: &[u8], input: &[u8], word: &mut [u8])
-    requires { ⌜ Table 0 k (now t) × (k ≤ 48) × (length (now word) ≡ k + length (now input)) × (length (now e) ≡ length (now word)) ⌝ }
-    ensures { λ _. ⌜ bytes (now (word .exit)) ≡ filled (length (now (word .entry))) k (bytes (now (input .entry))) (bytes (now (e .entry))) ⌝ }
+    requires { ⌜ Table 0 k (now t) × (k ≤ 48) × (length (now word) ≡ k + length (now input))
+        × (length (now e) ≡ length (now word)) ⌝ }
+    ensures { λ _. ⌜ bytes (now (word .exit)) ≡
+        filled (length (now (word .entry))) k (bytes (now (input .entry))) (bytes (now (e .entry))) ⌝ }
 {
     place(k, e, input, word);
     divider::reed_solomon::encode(t, k, word);
@@ -103,7 +109,8 @@ fn fill(t: &[u64], k: usize, e: &[u8], input: &[u8], word: &mut [u8])
 
 // Subword i, once those above it are written.
 pub fn write_subword(p: Profile, t: &[u64], i: usize, input: &[u8], out: &mut [u8])
-    requires { ⌜ Fits p (now out) × (i < p .subwords) × Table 0 (Checks p i) (now t) × (length (now input) ≡ DataLength p i) ⌝ }
+    requires { ⌜ Fits p (now out) × (i < p .subwords) × Table 0 (Checks p i) (now t)
+        × (length (now input) ≡ DataLength p i) ⌝ }
     ensures { λ _. ⌜ Wrote p (bytes (now (input .entry))) i (bytes (now (out .entry))) (bytes (now (out .exit))) ⌝ }
 {
     let n = p.length as usize;

@@ -1,4 +1,5 @@
-// Four subwords at a time, nothing being carried to them: their remainders are found together, in little more than the time of one.
+// Four subwords at a time, nothing being carried to them: their remainders are found together, in little more than the
+// time of one.
 ghost use Prim.Native.Nat.{_+_, _≤_, _<_};
 ghost use mathlib.Core.Path.{_≡_};
 ghost use lib.ListN.{length};
@@ -38,10 +39,10 @@ fn padded(k: usize, input: &[u8]) -> [u8; POSITIONS]
 
 // The remainders of four words with these data.
 fn remainders(t: &[u64], n: usize, k: usize, a: &[u8], b: &[u8], c: &[u8], d: &[u8]) -> FourResidues
-    requires { ⌜ Table 0 k (now t) × (k ≤ 48) × (n ≤ 255) × (k + length (now a) ≡ n) × (k + length (now b) ≡ n) × (k + length (now c) ≡ n)
-        × (k + length (now d) ≡ n) ⌝ }
-    ensures { λ r. ⌜ Known n k (now (a .entry)) (r .first) × Known n k (now (b .entry)) (r .second) × Known n k (now (c .entry)) (r .third)
-        × Known n k (now (d .entry)) (r .fourth) ⌝ }
+    requires { ⌜ Table 0 k (now t) × (k ≤ 48) × (n ≤ 255) × (k + length (now a) ≡ n) × (k + length (now b) ≡ n)
+        × (k + length (now c) ≡ n) × (k + length (now d) ≡ n) ⌝ }
+    ensures { λ r. ⌜ Known n k (now (a .entry)) (r .first) × Known n k (now (b .entry)) (r .second)
+        × Known n k (now (c .entry)) (r .third) × Known n k (now (d .entry)) (r .fourth) ⌝ }
 {
     let w = padded(k, a);
     let x = padded(k, b);
@@ -52,7 +53,8 @@ fn remainders(t: &[u64], n: usize, k: usize, a: &[u8], b: &[u8], c: &[u8], d: &[
 
 // Subword i, r being the remainder of its data.
 fn write_known(p: Profile, k: usize, r: &[u8], i: usize, input: &[u8], out: &mut [u8])
-    requires { ⌜ Fits p (now out) × (p .nested ≤ i) × (i < p .subwords) × (k ≡ Checks p i) × (length (now input) ≡ DataLength p i) × Known (p .length) k (now input) (now r) ⌝ }
+    requires { ⌜ Fits p (now out) × (p .nested ≤ i) × (i < p .subwords) × (k ≡ Checks p i)
+        × (length (now input) ≡ DataLength p i) × Known (p .length) k (now input) (now r) ⌝ }
     ensures { λ _. ⌜ Wrote p (bytes (now (input .entry))) i (bytes (now (out .entry))) (bytes (now (out .exit))) ⌝ }
 {
     let n = p.length as usize;
@@ -75,10 +77,11 @@ pub fn write_four(
     d: &[u8],
     out: &mut [u8],
 )
-    requires { ⌜ Fits p (now out) × (p .nested ≤ i) × (i + 4 ≤ p .subwords) × Table 0 (Checks p i) (now t) × (length (now a) ≡ DataLength p i)
-        × (length (now b) ≡ DataLength p i) × (length (now c) ≡ DataLength p i) × (length (now d) ≡ DataLength p i) ⌝ }
-    ensures { λ _. ⌜ WroteFour p (bytes (now (a .entry))) (bytes (now (b .entry))) (bytes (now (c .entry))) (bytes (now (d .entry))) i (bytes (now (out .entry)))
-        (bytes (now (out .exit))) ⌝ }
+    requires { ⌜ Fits p (now out) × (p .nested ≤ i) × (i + 4 ≤ p .subwords) × Table 0 (Checks p i) (now t)
+        × (length (now a) ≡ DataLength p i) × (length (now b) ≡ DataLength p i) × (length (now c) ≡ DataLength p i)
+        × (length (now d) ≡ DataLength p i) ⌝ }
+    ensures { λ _. ⌜ WroteFour p (bytes (now (a .entry))) (bytes (now (b .entry))) (bytes (now (c .entry)))
+        (bytes (now (d .entry))) i (bytes (now (out .entry))) (bytes (now (out .exit))) ⌝ }
 {
     let n = p.length as usize;
     let k = p.checks(i as u8) as usize;

@@ -1,4 +1,5 @@
-// Writing a block: the one codeword with the given data in its data positions. Subwords are written from the last to the first.
+// Writing a block: the one codeword with the given data in its data positions. Subwords are written from the last to
+// the first.
 mod carry;
 mod fours;
 
@@ -27,7 +28,8 @@ struct Left {
 
 // Writes four subwords at a time, while so many are left that nothing is carried to.
 fn write_fours(p: Profile, t: &[u64], k: usize, input: &[u8], out: &mut [u8]) -> Left
-    requires { ⌜ Fits p (now out) × (length (now input) ≡ DataSize p) × (k ≡ Checks p (p .nested)) × Table 0 k (now t) ⌝ }
+    requires { ⌜ Fits p (now out) × (length (now input) ≡ DataSize p)
+        × (k ≡ Checks p (p .nested)) × Table 0 k (now t) ⌝ }
     ensures { λ r. ⌜ (r .subwords ≤ p .subwords) × (r .symbols ≡ data-start p (r .subwords))
         × Upper p (bytes (now (input .entry))) (bytes (now (out .exit))) (r .subwords) ⌝ }
 {

@@ -1,7 +1,8 @@
 -- What a round reads, and the words that it takes its new syndromes of.
 --
 --   merged p b s i           subwords 0 to m − 1 of the block s, each times its `lagrange`, in one word
---   extended p a b o s i r   the row r of subword i after a round: with syndromes S_a to S_(b−1) of its merged word, if its flag says unsettled
+--   extended p a b o s i r   the row r of subword i after a round: with syndromes S_a to S_(b−1) of its merged word, if
+--                            its flag says unsettled
 --   Seen p o s t g           flags, block and table of syndromes are those of the progress g
 use Prim.Native.Nat.{ℕ, _<_}
 use mathlib.Core.Path.{_≡_}

@@ -2,9 +2,10 @@
 --
 --   vanishing n b    the polynomial with the roots α^j, for the j below n that pass b
 --
--- Proved: its degree and its values (below-vanishing, vanishing-at). Where the right sides of a small system are sums of powers of the α^k times
--- values x k, as those of nested words are, an unknown is the sum of the x k times Lagrange's polynomial (lagrange-solves), for any number of points.
--- A product is made factor by factor (factor-own, factor-other, factor-none, product-none, product-next).
+-- Proved: its degree and its values (below-vanishing, vanishing-at). Where the right sides of a small system are sums
+-- of powers of the α^k times values x k, as those of nested words are, an unknown is the sum of the x k times
+-- Lagrange's polynomial (lagrange-solves), for any number of points. A product is made factor by factor (factor-own,
+-- factor-other, factor-none, product-none, product-next).
 use Prim.Native.Nat.{ℕ, zero, suc, _+_, _*_, _≤_, _<_}
 use mathlib.Core.Path.{_≡_, refl, sym, ap, ap₂, _∙_}
 use mathlib.Core.Logic.{_≢_}
@@ -13,15 +14,16 @@ use native.Mathlib.Numerals.{add-one}
 use native.Mathlib.Omega.{arith}
 use native.Mathlib.Decide.{ℕ-discrete}
 use borrow.Author.Tests.{eq-eqb, ne-eqb}
-use Rattle.field.specs.Field.{F, 𝟎, 𝟏, α, _⊕_, _⊙_, zero-⊕, ⊕-self, ⊙-one, one-⊙, ⊙-zero, zero-⊙, ⊙-assoc, ⊙-comm, ⊙-ring, one≢zero, ⊙-nonzero}
-use Rattle.field.specs.Field.{pow, pow-mul, power-apart, inv, inv-mul}
+use Rattle.field.specs.Field.{F, 𝟎, 𝟏, α, _⊕_, _⊙_, zero-⊕, ⊕-self, ⊙-one, one-⊙, ⊙-zero, zero-⊙, ⊙-assoc, ⊙-comm}
+use Rattle.field.specs.Field.{⊙-ring, one≢zero, ⊙-nonzero, pow, pow-mul, power-apart, inv, inv-mul}
 use Rattle.series.specs.Sum.{sum, sum-cong, sum-swap, sum-one, ⊙-sum, sum-⊙}
 use Rattle.series.specs.Series.{Series, K}
 use Rattle.series.specs.Degree.{below, below-K}
 use Rattle.series.specs.Value.{value, value-is, value-K}
 use Rattle.series.specs.Interpolation.{line, below-line, value-line}
 use Rattle.staged_decoding.specs.Definition.{count, nth}
-use Rattle.staged_decoding.specs.Count.{count-zero, count-yes, count-no, count-cong, nth-lt, nth-passes, nth-rank, rank-nth, rank-lt}
+use Rattle.staged_decoding.specs.Count.{count-zero, count-yes, count-no, count-cong, nth-lt}
+use Rattle.staged_decoding.specs.Count.{nth-passes, nth-rank, rank-nth, rank-lt}
 use Rattle.extend.specs.LagrangeDefinition.{others, product, lagrange}
 
 -- ---- the others
@@ -55,9 +57,11 @@ count-others (suc n) b i h t = go (count-others n b i) (ℕ-discrete i n) (b n) 
         ∙ ap suc (count-cong n b (others b i) (λ j l. sym (others-other b i j (omega arith)))
         ∙ sym (count-no n (others b i) (ap (others b i) (sym e) ∙ others-self b i)))
     go ih (no e) true f =
-        count-yes n b f ∙ ap suc (ih (omega arith) t ∙ sym (count-yes n (others b i) (others-other b i n (λ s. e (sym s)) ∙ f)))
+        count-yes n b f
+        ∙ ap suc (ih (omega arith) t ∙ sym (count-yes n (others b i) (others-other b i n (λ s. e (sym s)) ∙ f)))
     go ih (no e) false f =
-        count-no n b f ∙ ih (omega arith) t ∙ ap suc (sym (count-no n (others b i) (others-other b i n (λ s. e (sym s)) ∙ f)))
+        count-no n b f ∙ ih (omega arith) t
+        ∙ ap suc (sym (count-no n (others b i) (others-other b i n (λ s. e (sym s)) ∙ f)))
 
 -- ---- products
 
@@ -70,7 +74,8 @@ unfolding product
 product-suc n b k = refl
 
 -- a loop goes on
-pub product-next : (n : ℕ) (b : ℕ → Bool) (k : ℕ) (x u r : F) → x ≡ pow α k → u ≡ product n b k → r ≡ u ⊙ cond (b n) (x ⊕ pow α n) 𝟏
+pub product-next : (n : ℕ) (b : ℕ → Bool) (k : ℕ) (x u r : F) → x ≡ pow α k → u ≡ product n b k
+    → r ≡ u ⊙ cond (b n) (x ⊕ pow α n) 𝟏
     → r ≡ product (n + 1) b k
 product-next n b k x u r ex eu er =
     er
@@ -88,7 +93,8 @@ product-cong : (n : ℕ) (b c : ℕ → Bool) (k : ℕ) → ((j : ℕ) → j < n
 product-cong zero b c k h = product-none b k ∙ sym (product-none c k)
 product-cong (suc n) b c k h =
     product-suc n b k
-    ∙ ap₂ (λ u x. u ⊙ cond x (pow α k ⊕ pow α n) 𝟏) (product-cong n b c k (λ j l. h j (omega arith))) (h n (omega arith))
+    ∙ ap₂ (λ u x. u ⊙ cond x (pow α k ⊕ pow α n) 𝟏)
+    (product-cong n b c k (λ j l. h j (omega arith))) (h n (omega arith))
     ∙ sym (product-suc n c k)
 
 -- a root
@@ -106,7 +112,8 @@ product-nonzero zero b k small l f = λ e. one≢zero (sym (product-none b k) �
 product-nonzero (suc n) b k small l f = go (product-nonzero n b k (omega arith) l f) (b n) refl
   where
     go : product n b k ≢ 𝟎 → (x : Bool) → b n ≡ x → product (suc n) b k ≢ 𝟎
-    go ih true t = rw (product-yes n b k t) (⊙-nonzero _ _ ih (power-apart k n l (omega arith) (λ e. true≢false (sym t ∙ ap b (sym e) ∙ f))))
+    go ih true t = rw (product-yes n b k t)
+        (⊙-nonzero _ _ ih (power-apart k n l (omega arith) (λ e. true≢false (sym t ∙ ap b (sym e) ∙ f))))
     go ih false t = rw (product-no n b k t) ih
 
 -- ---- the polynomial
@@ -128,7 +135,8 @@ unfolding vanishing
 below-vanishing zero b = rw (count-zero b) (below-K 𝟏)
 below-vanishing (suc n) b = go (below-vanishing n b) (b n) refl
   where
-    go : below (suc (count n b)) (vanishing n b) → (x : Bool) → b n ≡ x → below (suc (count (suc n) b)) (vanishing (suc n) b)
+    go : below (suc (count n b)) (vanishing n b) → (x : Bool) → b n ≡ x
+        → below (suc (count (suc n) b)) (vanishing (suc n) b)
     go ih true e = rw (vanishing-yes n b e, count-yes n b e) (below-line (suc (count n b)) _ _ _ ih)
     go ih false e = rw (vanishing-no n b e, count-no n b e) ih
 
@@ -147,7 +155,8 @@ vanishing-at (suc n) b k = go (vanishing-at n b k) (b n) refl
         ∙ ap (λ t. t ⊙ (pow α k ⊕ pow α n)) ih
         ∙ sym (product-yes n b k e)
     go ih false e =
-        ap₂ (λ c (f : Series). value (suc c) f (pow α k)) (count-no n b e) (vanishing-no n b e) ∙ ih ∙ sym (product-no n b k e)
+        ap₂ (λ c (f : Series). value (suc c) f (pow α k)) (count-no n b e) (vanishing-no n b e) ∙ ih
+        ∙ sym (product-no n b k e)
 
 -- ---- systems
 
@@ -186,7 +195,8 @@ module _ (m : ℕ) (b : ℕ → Bool) (small : m ≤ 255) (i : ℕ) (h : i < m) 
       (others-other b i (nth m b w) (λ e. d (sym (rank-nth m b w l) ∙ ap (λ k. count k b) e)) ∙ nth-passes m b w l)
 
   module _ (x S : ℕ → F)
-      (solves : (l : ℕ) → l < count m b → sum (count m b) (λ w. pow α (nth m b w * l) ⊙ S w) ≡ sum m (λ k. pow α (k * l) ⊙ x k)) where
+      (solves : (l : ℕ) → l < count m b
+      → sum (count m b) (λ w. pow α (nth m b w * l) ⊙ S w) ≡ sum m (λ k. pow α (k * l) ⊙ x k)) where
     -- all unknowns but one are weighed with zero
     one-left : sum (count m b) (λ w. rest (nth m b w) ⊙ S w) ≡ rest i ⊙ S (count i b)
     one-left =
@@ -214,7 +224,8 @@ module _ (m : ℕ) (b : ℕ → Bool) (small : m ≤ 255) (i : ℕ) (h : i < m) 
 
 -- ---- a matter of the numbers below m
 
-pub lagrange-cong : (m : ℕ) (b c : ℕ → Bool) (i k : ℕ) → ((j : ℕ) → j < m → b j ≡ c j) → lagrange m b i k ≡ lagrange m c i k
+pub lagrange-cong : (m : ℕ) (b c : ℕ → Bool) (i k : ℕ) → ((j : ℕ) → j < m → b j ≡ c j)
+    → lagrange m b i k ≡ lagrange m c i k
 unfolding lagrange
 lagrange-cong m b c i k h =
     ap₂ (λ u v. u ⊙ inv v) (product-cong m _ _ k same) (product-cong m _ _ i same)

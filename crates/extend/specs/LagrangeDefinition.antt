@@ -3,7 +3,8 @@
 --   flag o i           entry i of an array of flags
 --   others b i j       j passes the test b and is not i
 --   product n b k      the product of α^k + α^j over the j below n that pass b
---   lagrange m b i k   Lagrange's polynomial at α^k: it is one at α^i, and zero at α^j for the other j below m that pass b
+--   lagrange m b i k   Lagrange's polynomial at α^k: it is one at α^i, and zero at α^j for the other j below m
+--                      that pass b
 use Prim.Native.Nat.{ℕ, zero, suc}
 use mathlib.Core.Bool.{Bool, false, not, cond, _&&_}
 use mathlib.Core.List.{List}

@@ -2,9 +2,10 @@
 --
 --   partly r f t     the rows f 0, .., f (r − 1), then those of t
 --
--- Proved: for a valid profile the new syndromes of an unsettled subword are those of its merged word (fresh-merged), so the extended rows are the
--- round's (extend-is). A loop over subwords makes `partly` (partly-none, partly-more); what is done for one subword makes
--- `extended` (extended-no, extended-word). A word's syndromes are those of its remainder, in arrays (left-syndrome).
+-- Proved: for a valid profile the new syndromes of an unsettled subword are those of its merged word (fresh-merged), so
+-- the extended rows are the round's (extend-is). A loop over subwords makes `partly` (partly-none, partly-more); what
+-- is done for one subword makes `extended` (extended-no, extended-word). A word's syndromes are those of its remainder,
+-- in arrays (left-syndrome).
 use Prim.Native.Nat.{ℕ, _+_, _-_, _≤_, _<_}
 use mathlib.Core.Path.{_≡_, refl, sym, ap, ap₂, _∙_, fun-ext}
 use mathlib.Core.Bool.{Bool, true, false, cond}
@@ -49,12 +50,14 @@ merged-syndrome : (p : Profile) (b : ℕ → Bool) (s : Series) (i j : ℕ)
     ≡ sum (p .subwords) (λ k. lagrange (p .subwords) b i k ⊙ syndrome (p .length) (subword (p .length) s k) j)
 unfolding combined
 merged-syndrome p b s i j =
-    syndrome-sum (p .subwords) (p .length) (λ k. lagrange (p .subwords) b i (0 + k)) (λ k. subword (p .length) s (0 + k)) j
+    syndrome-sum (p .subwords) (p .length) (λ k. lagrange (p .subwords) b i (0 + k))
+    (λ k. subword (p .length) s (0 + k)) j
     ∙ sum-cong (p .subwords) _ _ (λ k l.
     ap (λ (k : ℕ). lagrange (p .subwords) b i k ⊙ syndrome (p .length) (subword (p .length) s k) j) (zero-add k))
 
 module _ (p : Profile) (ok : Valid p) (g : Progress) (i : ℕ) (h : i < p .subwords) where
-  pub fresh-merged : open? g i ≡ true → (j : ℕ) → fresh p g i j ≡ syndrome (p .length) (merged p (open? g) (g .block) i) j
+  pub fresh-merged : open? g i ≡ true → (j : ℕ)
+      → fresh p g i j ≡ syndrome (p .length) (merged p (open? g) (g .block) i) j
   unfolding fresh unsettled
   fresh-merged t j =
       lagrange-solves (p .subwords) (open? g) (omega (arith, ok .subwords .1)) i h t _ _
@@ -66,22 +69,27 @@ merged-cong : (p : Profile) (b c : ℕ → Bool) (s : Series) (i j : ℕ) → ((
     → syndrome (p .length) (merged p b s i) j ≡ syndrome (p .length) (merged p c s i) j
 merged-cong p b c s i j h =
     merged-syndrome p b s i j
-    ∙ sum-cong (p .subwords) _ _ (λ k l. ap (λ x. x ⊙ syndrome (p .length) (subword (p .length) s k) j) (lagrange-cong (p .subwords) b c i k h))
+    ∙ sum-cong (p .subwords) _ _
+    (λ k l. ap (λ x. x ⊙ syndrome (p .length) (subword (p .length) s k) j) (lagrange-cong (p .subwords) b c i k h))
     ∙ sym (merged-syndrome p c s i j)
 
 -- ---- from the remainder
 
--- a word g stands in the first n entries of the array w, its remainder in the first k of r, and syndromes of the remainder in s
-pub left-syndrome : (first n k b : ℕ) (g : Series) (w r : List ℕ) (s : List Gf) → first + k ≤ 48 → b ≤ first + k → n ≤ length w → length r ≡ 48
+-- a word g stands in the first n entries of the array w, its remainder in the first k of r, and syndromes of the
+-- remainder in s
+pub left-syndrome : (first n k b : ℕ) (g : Series) (w r : List ℕ) (s : List Gf)
+    → first + k ≤ 48 → b ≤ first + k → n ≤ length w → length r ≡ 48
     → bytes w ≡ cut n g → bytes r ≡ residue first (length (take n w)) k (bytes (take n w))
-    → row s ≡ cut b (syndrome (length (take k r)) (bytes (take k r))) → (j : ℕ) → first ≤ j → j < b → row s j ≡ syndrome n g j
+    → row s ≡ cut b (syndrome (length (take k r)) (bytes (take k r))) → (j : ℕ) → first ≤ j → j < b
+    → row s j ≡ syndrome n g j
 left-syndrome first n k b g w r s small most room long word left is j low h =
     let e : first + (j - first) ≡ j = omega arith in
     ap (λ (f : Series). f j) is
     ∙ cut-low b _ j h
     ∙ ap (λ (m : ℕ). syndrome m (bytes (take k r)) j) (length-take-le k r (omega arith))
     ∙ syndrome-is k _ j
-    ∙ value-cong k _ _ (root j) (λ i l. read-take of 0 k r i l ∙ ap (λ (f : Series). f i) (left ∙ prefix-residue first n k w g room word))
+    ∙ value-cong k _ _ (root j)
+    (λ i l. read-take of 0 k r i l ∙ ap (λ (f : Series). f i) (left ∙ prefix-residue first n k w g room word))
     ∙ (rw e at (residue-syndrome first n k g (omega arith) (j - first) (omega arith)))
 
 -- ---- rows, one after the other
@@ -98,7 +106,8 @@ partly-high r f t i h = rw (le-ltb i r h)
 pub partly-none : (f t : ℕ → Series) → t ≡ partly 0 f t
 partly-none f t = fun-ext (λ i. sym (partly-high 0 f t i (omega arith)))
 
-pub partly-more : (out : List (List Gf)) (i : ℕ) (r : List Gf) (f t : ℕ → Series) → i < length out → table out ≡ partly i f t → row r ≡ f i
+pub partly-more : (out : List (List Gf)) (i : ℕ) (r : List Gf) (f t : ℕ → Series)
+    → i < length out → table out ≡ partly i f t → row r ≡ f i
     → table (set out i r) ≡ partly (i + 1) f t
 partly-more out i r f t h e q = fun-ext (λ a. go a (ℕ-discrete a i) (decLt a i))
   where
@@ -120,15 +129,18 @@ module _ (p : Profile) (a b : ℕ) (o : List Bool) (s : Series) (i : ℕ) (r : S
   extended-no e = rw e
 
   -- the new entries are syndromes of the merged word
-  pub extended-word : (g out : Series) → flag o i ≡ true → ((j : ℕ) → a ≤ j → j < b → g j ≡ syndrome (p .length) (merged p (flag o) s i) j)
+  pub extended-word : (g out : Series) → flag o i ≡ true
+      → ((j : ℕ) → a ≤ j → j < b → g j ≡ syndrome (p .length) (merged p (flag o) s i) j)
       → out ≡ window a b g r → out ≡ extended p a b o s i r
   extended-word g out e same q = q ∙ window-cong a b g _ r same ∙ sym (extended-yes e)
 
-module _ (p : Profile) (ok : Valid p) (a b : ℕ) (o : List Bool) (s : List ℕ) (t : List (List Gf)) (g : Progress) (seen : Seen p o s t g) where
+module _ (p : Profile) (ok : Valid p) (a b : ℕ) (o : List Bool) (s : List ℕ) (t : List (List Gf)) (g : Progress)
+    (seen : Seen p o s t g) where
   abbrev rows : ℕ → Series
   rows i = extended p a b o (bytes s) i (table t i)
 
-  fresh-seen : (i : ℕ) → i < p .subwords → flag o i ≡ true → fresh p g i ≡ syndrome (p .length) (merged p (flag o) (bytes s) i)
+  fresh-seen : (i : ℕ) → i < p .subwords → flag o i ≡ true
+      → fresh p g i ≡ syndrome (p .length) (merged p (flag o) (bytes s) i)
   fresh-seen i h e = fun-ext (λ j.
       fresh-merged p ok g i h (seen .flags i h ∙ e) j
       ∙ ap (λ (s : Series). syndrome (p .length) (merged p (open? g) s i) j) (seen .block)
@@ -137,14 +149,16 @@ module _ (p : Profile) (ok : Valid p) (a b : ℕ) (o : List Bool) (s : List ℕ)
   row-at : (i : ℕ) → g .row i ≡ table t i
   row-at i = ap (λ (f : ℕ → Series). f i) (seen .row)
 
-  extend-at : (i : ℕ) (x : Bool) → i < p .subwords → flag o i ≡ x → extend p a b g .row i ≡ cond x (window a b (fresh p g i) (g .row i)) (g .row i)
+  extend-at : (i : ℕ) (x : Bool) → i < p .subwords → flag o i ≡ x
+      → extend p a b g .row i ≡ cond x (window a b (fresh p g i) (g .row i)) (g .row i)
   unfolding extend
   extend-at i x h e = rw (lt-ltb i (p .subwords) h, seen .flags i h ∙ e)
 
   pub extend-is : (k : ℕ) → k ≡ p .subwords → partly k rows (table t) ≡ extend p a b g .row
   extend-is k all = ap (λ k. partly k rows (table t)) all ∙ fun-ext (λ i. go i (decLt i (p .subwords)) (flag o i) refl)
     where
-      go : (i : ℕ) → Dec (i < p .subwords) → (x : Bool) → flag o i ≡ x → partly (p .subwords) rows (table t) i ≡ extend p a b g .row i
+      go : (i : ℕ) → Dec (i < p .subwords) → (x : Bool) → flag o i ≡ x
+          → partly (p .subwords) rows (table t) i ≡ extend p a b g .row i
       go i (yes h) true e =
           partly-low (p .subwords) rows (table t) i h
           ∙ extended-yes p a b o (bytes s) i (table t i) e
@@ -156,4 +170,5 @@ module _ (p : Profile) (ok : Valid p) (a b : ℕ) (o : List Bool) (s : List ℕ)
           ∙ sym (row-at i)
           ∙ sym (extend-at i false h e)
       go i (no h) x e =
-          partly-high (p .subwords) rows (table t) i (omega arith) ∙ sym (row-at i) ∙ sym (extend-past p a b g i (omega arith))
+          partly-high (p .subwords) rows (table t) i (omega arith) ∙ sym (row-at i)
+          ∙ sym (extend-past p a b g i (omega arith))

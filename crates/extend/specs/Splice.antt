@@ -1,6 +1,7 @@
 -- Entries of one row put into another, one after the other.
 --
--- Proved: an entry more goes into a window (row-window), and where the loop ends (window-end); only the entries inside count (window-cong).
+-- Proved: an entry more goes into a window (row-window), and where the loop ends (window-end); only the entries inside
+-- count (window-cong).
 use Prim.Native.Nat.{ℕ, _+_, _-_, _≤_, _<_}
 use mathlib.Core.Path.{_≡_, sym, ap, ap₂, _∙_, fun-ext}
 use mathlib.Core.Logic.{by-cases}
@@ -27,7 +28,8 @@ row-put l j v n h =
     go k (yes e) = rw e (read-set-same val _ l j v (omega arith) ∙ sym (put-same j (val v) (values l)))
     go k (no e) = read-set-other val _ l j k v e ∙ sym (put-other j (val v) (values l) k e)
 
-pub row-window : (l : List Gf) (a j : ℕ) (v : Gf) (g f : Series) → length l ≡ 48 → j < 48 → a ≤ j → val v ≡ g j → row l ≡ window a j g f
+pub row-window : (l : List Gf) (a j : ℕ) (v : Gf) (g f : Series) → length l ≡ 48 → j < 48 → a ≤ j → val v ≡ g j
+    → row l ≡ window a j g f
     → row (set l j v) ≡ window a (j + 1) g f
 row-window l a j v g f n h le e is = row-put l j v n h ∙ ap₂ (put j) e is ∙ sym (window-more a j g f le)
 
@@ -48,5 +50,6 @@ window-cong a b g h f same = fun-ext (λ j. go j (decLt j a) (decLt j b))
   where
     go : (j : ℕ) → Dec (j < a) → Dec (j < b) → window a b g f j ≡ window a b h f j
     go j (yes u) v = window-low a b g f j u ∙ sym (window-low a b h f j u)
-    go j (no u) (yes v) = window-in a b g f j (omega arith) v ∙ same j (omega arith) v ∙ sym (window-in a b h f j (omega arith) v)
+    go j (no u) (yes v) = window-in a b g f j (omega arith) v ∙ same j (omega arith) v
+        ∙ sym (window-in a b h f j (omega arith) v)
     go j (no u) (no v) = window-high a b g f j (omega arith) ∙ sym (window-high a b h f j (omega arith))

@@ -37,8 +37,10 @@ of-byte (poly a0 a1 a2 a3 a4 a5 a6 a7) =
     let h5 : bit a5 < 2 = bit-lt a5 in
     let h6 : bit a6 < 2 = bit-lt a6 in
     let h7 : bit a7 < 2 = bit-lt a7 in
-    λ i. poly (isOdd-bit n a0 (omega arith) i) (isOdd-bit (n / 2) a1 (omega arith) i) (isOdd-bit (n / 4) a2 (omega arith) i)
-    (isOdd-bit (n / 8) a3 (omega arith) i) (isOdd-bit (n / 16) a4 (omega arith) i) (isOdd-bit (n / 32) a5 (omega arith) i)
+    λ i.
+    poly (isOdd-bit n a0 (omega arith) i) (isOdd-bit (n / 2) a1 (omega arith) i) (isOdd-bit (n / 4) a2 (omega arith) i)
+    (isOdd-bit (n / 8) a3 (omega arith) i) (isOdd-bit (n / 16) a4 (omega arith) i)
+    (isOdd-bit (n / 32) a5 (omega arith) i)
     (isOdd-bit (n / 64) a6 (omega arith) i) (isOdd-bit (n / 128) a7 (omega arith) i)
   where
     n : ℕ
@@ -46,7 +48,8 @@ of-byte (poly a0 a1 a2 a3 a4 a5 a6 a7) =
 
 pub byte-lt : (x : F) → byte x < 256
 unfolding byte
-byte-lt (poly a0 a1 a2 a3 a4 a5 a6 a7) = omega (arith, bit-lt a0, bit-lt a1, bit-lt a2, bit-lt a3, bit-lt a4, bit-lt a5, bit-lt a6, bit-lt a7)
+byte-lt (poly a0 a1 a2 a3 a4 a5 a6 a7) =
+    omega (arith, bit-lt a0, bit-lt a1, bit-lt a2, bit-lt a3, bit-lt a4, bit-lt a5, bit-lt a6, bit-lt a7)
 
 byte-of-test : T (all 256 (λ n. eqb (byte (of n)) n))
 unfolding all byte of bit isOdd
@@ -83,7 +86,8 @@ eqb-differ (suc (suc m)) n h k = absurd (omega arith)
 isOdd-xor : (a b : ℕ) → isOdd (bitXor a b) ≡ xor (isOdd a) (isOdd b)
 unfolding isOdd
 isOdd-xor a b =
-    let e : bitXor a b % 2 ≡ differ (a % 2) (b % 2) = omega (arith, xor-step a b, differ-lt (a % 2) (b % 2) (omega arith) (omega arith)) in
+    let e : bitXor a b % 2 ≡ differ (a % 2) (b % 2) =
+    omega (arith, xor-step a b, differ-lt (a % 2) (b % 2) (omega arith) (omega arith)) in
     ap (λ (k : ℕ). eqb k 1) e ∙ eqb-differ (a % 2) (b % 2) (omega arith) (omega arith)
 
 -- bit k of both
@@ -94,7 +98,8 @@ isOdd-shr a b k = ap isOdd (xor-shr a b k) ∙ isOdd-xor (a / 2 ^ k) (b / 2 ^ k)
 pub of-xor : (a b : ℕ) → of (bitXor a b) ≡ of a ⊕ of b
 unfolding of _⊕_
 of-xor a b =
-    λ i. poly (isOdd-xor a b i) (isOdd-shr a b 1 i) (isOdd-shr a b 2 i) (isOdd-shr a b 3 i) (isOdd-shr a b 4 i) (isOdd-shr a b 5 i) (isOdd-shr a b 6 i) (isOdd-shr a b 7 i)
+    λ i. poly (isOdd-xor a b i) (isOdd-shr a b 1 i) (isOdd-shr a b 2 i) (isOdd-shr a b 3 i) (isOdd-shr a b 4 i)
+    (isOdd-shr a b 5 i) (isOdd-shr a b 6 i) (isOdd-shr a b 7 i)
 
 pub byte-xor : (x y : F) → byte (x ⊕ y) ≡ bitXor (byte x) (byte y)
 byte-xor x y =

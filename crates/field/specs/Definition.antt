@@ -1,4 +1,5 @@
--- GF(256): all that the promises of this crate speak of. Definitions only; their laws stand in the files beside this one.
+-- GF(256): all that the promises of this crate speak of. Definitions only; their laws stand in the files
+-- beside this one.
 --
 -- FORMAT 1: bytes as polynomials over the two-element field; the product is reduced modulo 285, and α is the byte 2.
 --
@@ -91,7 +92,8 @@ isOdd n = eqb (n % 2) 1
 
 unfoldable pub of : ℕ → F
 of n =
-    poly (isOdd n) (isOdd (n / 2)) (isOdd (n / 4)) (isOdd (n / 8)) (isOdd (n / 16)) (isOdd (n / 32)) (isOdd (n / 64)) (isOdd (n / 128))
+    poly (isOdd n) (isOdd (n / 2)) (isOdd (n / 4)) (isOdd (n / 8)) (isOdd (n / 16)) (isOdd (n / 32))
+    (isOdd (n / 64)) (isOdd (n / 128))
 
 unfoldable pub bit : Bool → ℕ
 bit false = 0

@@ -1,7 +1,7 @@
 -- Doubling a byte, bytes as sums of powers of two, and the last byte of a number.
 --
--- Proved: a shift by one, with 29 added for the bit that falls out, is the product with α (of-twice, of-double); a power of two and
--- a number below it add up (of-high); the value of a number is that of its last byte (of-mod).
+-- Proved: a shift by one, with 29 added for the bit that falls out, is the product with α (of-twice, of-double); a
+-- power of two and a number below it add up (of-high); the value of a number is that of its last byte (of-mod).
 use Prim.Native.Nat.{ℕ, _+_, _*_, _/_, _%_, _^_, _<_}
 use mathlib.Core.Path.{_≡_, sym, ap, ap₂, _∙_}
 use mathlib.Core.Bool.{false, xor}
@@ -9,7 +9,8 @@ use native.Mathlib.Omega.{arith}
 use lib.Dec.{T, eqb, eqb→eq}
 use lib.Bits.{bitXor, xor-shifted, xor-zero-r}
 use Rattle.field.specs.Test.{all, all-at}
-use Rattle.field.specs.Definition.{F, 𝟎, α, _⊕_, plus, times, scale, z⁸, horner, modulo, coefficients, _⊙_, isOdd, of, bit, byte}
+use Rattle.field.specs.Definition.{F, 𝟎, α, _⊕_, plus, times, scale, z⁸, horner, modulo}
+use Rattle.field.specs.Definition.{coefficients, _⊙_, isOdd, of, bit, byte}
 use Rattle.field.specs.Sum.{⊕-comm, zero-⊕}
 use Rattle.field.specs.Byte.{of-byte, of-xor}
 
@@ -23,7 +24,8 @@ twice-test = tt
 pub of-twice : (n : ℕ) → n < 256 → of (bitXor (n * 2 % 256) (n / 128 * 29)) ≡ α ⊙ of n
 unfolding twice
 of-twice n h =
-    ap of (sym (eqb→eq (byte (α ⊙ of n)) (twice n) (all-at 256 (λ n. eqb (byte (α ⊙ of n)) (twice n)) twice-test n h))) ∙ of-byte (α ⊙ of n)
+    ap of (sym (eqb→eq (byte (α ⊙ of n)) (twice n) (all-at 256 (λ n. eqb (byte (α ⊙ of n)) (twice n)) twice-test n h)))
+    ∙ of-byte (α ⊙ of n)
 
 pub of-double : (n : ℕ) → n < 128 → of (n + n) ≡ α ⊙ of n
 of-double n h =

@@ -13,7 +13,8 @@ use native.Mathlib.Nat.{add-zero, zero-add, add-suc, suc-add}
 use native.Mathlib.Omega.{arith}
 use lib.Dec.{T, eqb, ltb, eqb→eq, ltb→lt}
 use lib.ListN.{length, getD, List·getD-append}
-use Rattle.field.specs.Definition.{F, 𝟎, 𝟏, α, _⊕_, plus, times, scale, z⁸, horner, modulo, coefficients, _⊙_, pow, of, bit, byte, powers, place, logOf, log}
+use Rattle.field.specs.Definition.{F, 𝟎, 𝟏, α, _⊕_, plus, times, scale, z⁸, horner, modulo, coefficients, _⊙_}
+use Rattle.field.specs.Definition.{pow, of, bit, byte, powers, place, logOf, log}
 use Rattle.field.specs.Product.{⊙-assoc, ⊙-left-comm, ⊙-one, one-⊙}
 use Rattle.field.specs.Test.{all, all-at, and-both}
 use Rattle.field.specs.Byte.{byte-of, byte-lt, byte-inj, byte-zero}
@@ -26,7 +27,8 @@ unfolding powers
 powers-at zero x k h = absurd (omega arith)
 powers-at (suc n) x zero h = ap byte (sym (ap (λ (s : F). s ⊙ x) (pow-zero α) ∙ one-⊙ x))
 powers-at (suc n) x (suc k) h =
-    powers-at n (α ⊙ x) k (omega arith) ∙ ap byte (⊙-left-comm _ _ _ ∙ sym (⊙-assoc _ _ _) ∙ ap (λ (s : F). s ⊙ x) (sym (pow-suc α k)))
+    powers-at n (α ⊙ x) k (omega arith)
+    ∙ ap byte (⊙-left-comm _ _ _ ∙ sym (⊙-assoc _ _ _) ∙ ap (λ (s : F). s ⊙ x) (sym (pow-suc α k)))
 
 powers-one : (k : ℕ) → k < 255 → getD (powers 255 𝟏) k 0 ≡ byte (pow α k)
 powers-one k h = powers-at 255 𝟏 k h ∙ ap byte (⊙-one (pow α k))
@@ -64,7 +66,8 @@ pub pow-log : (x : F) → x ≢ 𝟎 → pow α (log x) ≡ x
 unfolding log
 pow-log x h =
     byte-inj (pow α (log x)) x
-    (sym (powers-one (log x) (log-lt x)) ∙ eqb→eq _ (byte x) (or-right (eqb (byte x) 0) _ nonzero (complete-at (byte x) (byte-lt x) .1)))
+    (sym (powers-one (log x) (log-lt x))
+    ∙ eqb→eq _ (byte x) (or-right (eqb (byte x) 0) _ nonzero (complete-at (byte x) (byte-lt x) .1)))
   where
     nonzero : ¬ T (eqb (byte x) 0)
     nonzero t = h (byte-inj x 𝟎 (eqb→eq (byte x) 0 t ∙ sym byte-zero))

@@ -3,13 +3,14 @@
 -- Proved: linear on both sides, associative, commutative, neutral 𝟏.
 -- Tool:   `simp ⊙-ring` proves an equation that holds in every commutative ring of characteristic 2.
 --
--- The product is the action of a polynomial on a value: x ⊙ y ≡ apply (coefficients x) y. The actions of two polynomials commute, and every
--- value is what its own coefficients make of 𝟏; the rest follows.
+-- The product is the action of a polynomial on a value: x ⊙ y ≡ apply (coefficients x) y. The actions of two
+-- polynomials commute, and every value is what its own coefficients make of 𝟏; the rest follows.
 use mathlib.Core.Path.{_≡_, refl, sym, ap, ap₂, _∙_}
 use mathlib.Core.Bool.{Bool, true, false, xor, true≢false}
 use mathlib.Core.Logic.{_≢_}
 use mathlib.Core.List.{List, [], _∷_}
-use Rattle.field.specs.Definition.{F, poly, 𝟎, 𝟏, α, _⊕_, plus, times, scale, z⁸, horner, modulo, coefficients, _⊙_}
+use Rattle.field.specs.Definition.{F, poly, 𝟎, 𝟏, α, _⊕_, plus, times, scale, z⁸}
+use Rattle.field.specs.Definition.{horner, modulo, coefficients, _⊙_}
 use Rattle.field.specs.Sum.{xor-false, ⊕-assoc, ⊕-comm, ⊕-left-comm, ⊕-self, ⊕-self-left, ⊕-zero, zero-⊕, ⊕-group}
 
 -- ---- modulo 285 is linear
@@ -79,7 +80,8 @@ shift-zero = horner-zero false
 horner-scale : (a : Bool) (x : F) → horner a x ≡ scale a 𝟏 ⊕ shift x
 unfolding shift
 horner-scale a x =
-    ap₂ horner (sym (xor-false a)) (sym (zero-⊕ x)) ∙ horner-⊕ a false 𝟎 x ∙ ap (λ (s : F). s ⊕ horner false x) (horner-zero a)
+    ap₂ horner (sym (xor-false a)) (sym (zero-⊕ x)) ∙ horner-⊕ a false 𝟎 x
+    ∙ ap (λ (s : F). s ⊕ horner false x) (horner-zero a)
 
 apply : List Bool → F → F
 apply [] x = 𝟎
@@ -117,13 +119,15 @@ apply-shift (a ∷ p) x = ap₂ (λ (s t : F). s ⊕ shift t) (scale-shift a x) 
 apply-comm : (p q : List Bool) (x : F) → apply p (apply q x) ≡ apply q (apply p x)
 unfolding apply
 apply-comm [] q x = sym (apply-zero q)
-apply-comm (a ∷ p) q x = sym (apply-⊕ q _ _ ∙ ap₂ _⊕_ (apply-scale q a x) (apply-shift q _ ∙ ap shift (sym (apply-comm p q x))))
+apply-comm (a ∷ p) q x =
+    sym (apply-⊕ q _ _ ∙ ap₂ _⊕_ (apply-scale q a x) (apply-shift q _ ∙ ap shift (sym (apply-comm p q x))))
 
 modulo-times : (p q : List Bool) → modulo (times p q) ≡ apply p (modulo q)
 unfolding modulo times apply scale shift
 modulo-times [] q = refl
 modulo-times (false ∷ p) q = ap (horner false) (modulo-times p q) ∙ sym (zero-⊕ _)
-modulo-times (true ∷ p) q = modulo-plus q (false ∷ times p q) ∙ ap (λ (s : F). modulo q ⊕ horner false s) (modulo-times p q)
+modulo-times (true ∷ p) q = modulo-plus q (false ∷ times p q)
+    ∙ ap (λ (s : F). modulo q ⊕ horner false s) (modulo-times p q)
 
 modulo-apply : (p : List Bool) → modulo p ≡ apply p 𝟏
 unfolding modulo apply
@@ -144,7 +148,8 @@ pub ⊙-⊕ : (x y z : F) → x ⊙ (y ⊕ z) ≡ x ⊙ y ⊕ x ⊙ z
 ⊙-⊕ x y z = rw (⊙-apply x (y ⊕ z), ⊙-apply x y, ⊙-apply x z) (apply-⊕ (coefficients x) y z)
 
 pub ⊕-⊙ : (x y z : F) → (x ⊕ y) ⊙ z ≡ x ⊙ z ⊕ y ⊙ z
-⊕-⊙ x y z = rw (⊙-apply (x ⊕ y) z, ⊙-apply x z, ⊙-apply y z, coefficients-⊕ x y) (apply-plus (coefficients x) (coefficients y) z)
+⊕-⊙ x y z = rw (⊙-apply (x ⊕ y) z, ⊙-apply x z, ⊙-apply y z, coefficients-⊕ x y)
+    (apply-plus (coefficients x) (coefficients y) z)
 
 pub ⊙-zero : (x : F) → x ⊙ 𝟎 ≡ 𝟎
 ⊙-zero x = ⊙-apply x 𝟎 ∙ apply-zero (coefficients x)
@@ -154,7 +159,8 @@ pub ⊙-one : (x : F) → x ⊙ 𝟏 ≡ x
 
 -- p (q x) = q (p x), with x for what its coefficients make of 𝟏
 pub ⊙-left-comm : (x y z : F) → x ⊙ (y ⊙ z) ≡ y ⊙ (x ⊙ z)
-⊙-left-comm x y z = rw (⊙-apply x (y ⊙ z), ⊙-apply y z, ⊙-apply y (x ⊙ z), ⊙-apply x z) (apply-comm (coefficients x) (coefficients y) z)
+⊙-left-comm x y z =
+    rw (⊙-apply x (y ⊙ z), ⊙-apply y z, ⊙-apply y (x ⊙ z), ⊙-apply x z) (apply-comm (coefficients x) (coefficients y) z)
 
 pub ⊙-comm : (x y : F) → x ⊙ y ≡ y ⊙ x
 ⊙-comm x y = ap (λ (s : F). x ⊙ s) (sym (⊙-one y)) ∙ ⊙-left-comm x y 𝟏 ∙ ap (λ (s : F). y ⊙ s) (⊙-one x)
@@ -169,8 +175,24 @@ pub one-⊙ : (x : F) → 𝟏 ⊙ x ≡ x
 one-⊙ x = ⊙-comm 𝟏 x ∙ ⊙-one x
 
 -- sums of products in one order, without pairs of equal terms
-pub ruleset ⊙-ring =
-    (⊕-assoc, ⊕-comm, ⊕-left-comm, ⊕-self, ⊕-self-left, ⊕-zero, zero-⊕, ⊙-assoc, ⊙-comm, ⊙-left-comm, ⊙-zero, zero-⊙, ⊙-one, one-⊙, ⊙-⊕, ⊕-⊙)
+pub ruleset ⊙-ring = (
+  ⊕-assoc,
+  ⊕-comm,
+  ⊕-left-comm,
+  ⊕-self,
+  ⊕-self-left,
+  ⊕-zero,
+  zero-⊕,
+  ⊙-assoc,
+  ⊙-comm,
+  ⊙-left-comm,
+  ⊙-zero,
+  zero-⊙,
+  ⊙-one,
+  one-⊙,
+  ⊙-⊕,
+  ⊕-⊙,
+)
 
 pub one≢zero : 𝟏 ≢ 𝟎
 unfolding 𝟎 𝟏

@@ -1,6 +1,6 @@
-// GF(256), the field of the code: bytes as polynomials over the two-element field, modulo z^8 + z^4 + z^3 + z^2 + 1 (285).
-// The promises speak of the values F and their operations, defined in specs/Definition.antt: `val g` is the value of a `Gf`.
-// A product costs two logarithms and a power, whatever its factors are.
+// GF(256), the field of the code: bytes as polynomials over the two-element field, modulo z^8 + z^4 + z^3 + z^2 + 1
+// (285). The promises speak of the values F and their operations, defined in specs/Definition.antt: `val g` is the
+// value of a `Gf`. A product costs two logarithms and a power, whatever its factors are.
 ghost use Prim.Native.Nat.{ℕ, _<_};
 ghost use mathlib.Core.Path.{_≡_};
 ghost use lib.ListN.{getD};

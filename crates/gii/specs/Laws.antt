@@ -1,8 +1,9 @@
 -- Laws of the numbers that are handed out.
 --
--- Proved: a size is 0 exactly if the profile is refused (size-refuses; data-some, block-some); the part of a fetch stands where its start says
--- (part-stands), and only the empty one has size 0 (size-empty); an accepted fetch has an accepted profile (fetched-small, start-accepted,
--- start-refused); any other number names the plain form (form-other); a buffer is filled with what a reading tells (numbers-filled).
+-- Proved: a size is 0 exactly if the profile is refused (size-refuses; data-some, block-some); the part of a fetch
+-- stands where its start says (part-stands), and only the empty one has size 0 (size-empty); an accepted fetch has an
+-- accepted profile (fetched-small, start-accepted, start-refused); any other number names the plain form (form-other);
+-- a buffer is filled with what a reading tells (numbers-filled).
 use Prim.Native.Nat.{ℕ, zero, suc, _+_, _-_, _*_, _<_}
 use mathlib.Core.Path.{_≡_, refl, sym, ap, ap₂, _∙_, fun-ext}
 use mathlib.Core.List.{List, [], _∷_}
@@ -94,11 +95,13 @@ module _ (b : List ℕ) (s i : ℕ) where
       let (p, _, is, below) = fetched e in
       omega (arith, admitted-valid Card b 0 0 0 p is (omega (arith, small 2)) .subwords)
 
-  pub start-accepted : (n : ℕ) → answer-of (fetching b s i) ≡ answer.Accepted → n ≡ if-accepted (λ p. start p i) (profile-of b)
+  pub start-accepted : (n : ℕ) → answer-of (fetching b s i) ≡ answer.Accepted
+      → n ≡ if-accepted (λ p. start p i) (profile-of b)
       → n ≡ if-accepted (λ p. start p i) (fetching b s i)
   start-accepted n e is = let (p, f, g, _) = fetched e in is ∙ ap (if-accepted (λ p. start p i)) (g ∙ sym f)
 
-  pub start-refused : (q : Refusal) → answer-of (fetching b s i) ≡ answer.Refused q → 0 ≡ if-accepted (λ p. start p i) (fetching b s i)
+  pub start-refused : (q : Refusal) → answer-of (fetching b s i) ≡ answer.Refused q
+      → 0 ≡ if-accepted (λ p. start p i) (fetching b s i)
   start-refused q e = sym (ap (if-accepted (λ p. start p i)) (refused-of (fetching b s i) q e))
 
 -- ---- forms
@@ -112,7 +115,8 @@ form-other (suc (suc (suc n))) h k = refl
 -- ---- reports
 
 -- in whatever form
-pub numbers-filled : (f : Form) (r : Result) (x : Report) (a : Answer) (s : ℕ) (l b e : List ℕ) → a ≡ answer-to r → Tells f (report-of r) x
+pub numbers-filled : (f : Form) (r : Result) (x : Report) (a : Answer) (s : ℕ) (l b e : List ℕ) → a ≡ answer-to r
+    → Tells f (report-of r) x
     → s ≡ stage-of a → l ≡ listed s (x .last) (x .changed) (says (x .lines)) → e ≡ filled l b → e ≡ filled (numbers r) b
 numbers-filled f r x a s l b e is tells stage list end = end ∙ ap (λ l. filled l b) (list ∙ told)
   where

@@ -2,14 +2,15 @@
 --
 --   stage-of a         the stage that an 8 says, 0 with any other number
 --   line-numbers l     the three numbers of a line; lines-numbers n f: those of the lines f 0 to f (n − 1)
---   listed s r c f     the numbers of a report: s is the stage of an 8, r the last stage, c the changed symbols, f the lines
+--   listed s r c f     the numbers of a report: s is the stage of an 8, r the last stage, c the changed symbols,
+--                      f the lines
 --   filled l b         the buffer b after as many of the numbers l as it has room for were written to it
 use Prim.Native.Nat.{ℕ, zero, suc, _/_, _%_}
 use mathlib.Core.List.{List, [], _∷_, _++_}
 use lib.ListN.{length, take, drop}
 use Rattle.profile.specs.declared.Refusal.{Refusal}
-use Rattle.profile.specs.declared.Refusal.the-variants.{ProfileSize, Subwords, Nested, Capabilities, Length, InputSize, OutputSize}
-use Rattle.profile.specs.declared.Refusal.the-variants.{Unsettled, NotCodeword, Subword}
+use Rattle.profile.specs.declared.Refusal.the-variants.{ProfileSize, Subwords, Nested, Capabilities, Length, InputSize}
+use Rattle.profile.specs.declared.Refusal.the-variants.{OutputSize, Unsettled, NotCodeword, Subword}
 use Rattle.profile.specs.declared.Answer.{Answer}
 use Rattle.profile.specs.declared.Answer.the-variants.{Accepted, Refused}
 use Rattle.staged_decoding.specs.Definition.{Line, clean, corrected}

@@ -1,7 +1,7 @@
 -- Lists of numbers, and buffers that they fill.
 --
--- Proved: a list takes up three numbers (put-three), line after line (lines-none, lines-more, lines-all); a buffer is filled number by number
--- (filled-more, filled-length, filled-all, filled-up).
+-- Proved: a list takes up three numbers (put-three), line after line (lines-none, lines-more, lines-all); a buffer is
+-- filled number by number (filled-more, filled-length, filled-all, filled-up).
 use Prim.Native.Nat.{ℕ, zero, suc, _+_, _*_, _≤_, _<_}
 use mathlib.Core.Path.{_≡_, refl, sym, ap, ap₂, _∙_}
 use mathlib.Core.List.{List, [], _∷_, _++_, append-assoc, append-nil}
@@ -43,17 +43,21 @@ three l k x y z h =
 
 pub put-three : (list x : List ℕ) (k : ℕ) → k + 3 ≤ length list → length x ≡ 3
     → take (k + 3) (set (set (set list k (getD x 0 0)) (k + 1) (getD x 1 0)) (k + 2) (getD x 2 0)) ≡ take k list ++ x
-put-three list x k h e = three list k (getD x 0 0) (getD x 1 0) (getD x 2 0) h ∙ ap (λ n. take k list ++ n) (entries x e)
+put-three list x k h e = three list k (getD x 0 0) (getD x 1 0) (getD x 2 0) h
+    ∙ ap (λ n. take k list ++ n) (entries x e)
 
 pub lines-none : (f : ℕ → Line) (l : List ℕ) → take (4 + 3 * 0) l ≡ take 4 l ++ lines-numbers 0 f
 lines-none f l = sym (append-nil (take 4 l))
 
 pub lines-more : (lines : List stored.Line) (h list next x : List ℕ) (i : ℕ) (d : stored.Line) → i < length lines
-    → take (4 + 3 * i) list ≡ h ++ lines-numbers i (says lines) → x ≡ line-numbers (verdict-of (getD lines i d .verdict))
-    → take (4 + 3 * i + 3) next ≡ take (4 + 3 * i) list ++ x → take (4 + 3 * (i + 1)) next ≡ h ++ lines-numbers (i + 1) (says lines)
+    → take (4 + 3 * i) list ≡ h ++ lines-numbers i (says lines)
+    → x ≡ line-numbers (verdict-of (getD lines i d .verdict))
+    → take (4 + 3 * i + 3) next ≡ take (4 + 3 * i) list ++ x
+    → take (4 + 3 * (i + 1)) next ≡ h ++ lines-numbers (i + 1) (says lines)
 lines-more lines h list next x i d below is line put =
     let n : 4 + 3 * (i + 1) ≡ 4 + 3 * i + 3 = omega arith in
-    let l : x ≡ line-numbers (says lines i) = line ∙ ap line-numbers (sym (says-at lines i (getD lines i d) (has lines i d below))) in
+    let l : x ≡ line-numbers (says lines i) = line
+    ∙ ap line-numbers (sym (says-at lines i (getD lines i d) (has lines i d below))) in
     ap (λ n. take n next) n
     ∙ put
     ∙ ap₂ _++_ is l
@@ -68,10 +72,12 @@ lines-all f h head list i e long first is =
 -- ---- filling a buffer
 
 module _ (l b : List ℕ) where
-  pub filled-more : (i : ℕ) → i < length l → i < length b → set (take i l ++ drop i b) i (getD l i 0) ≡ take (i + 1) l ++ drop (i + 1) b
+  pub filled-more : (i : ℕ) → i < length l → i < length b
+      → set (take i l ++ drop i b) i (getD l i 0) ≡ take (i + 1) l ++ drop (i + 1) b
   filled-more i h k = go l b i h k ∙ ap (λ n. take n l ++ drop n b) (sym (add-one i))
     where
-      go : (l b : List ℕ) (i : ℕ) → i < length l → i < length b → set (take i l ++ drop i b) i (getD l i 0) ≡ take (suc i) l ++ drop (suc i) b
+      go : (l b : List ℕ) (i : ℕ) → i < length l → i < length b
+          → set (take i l ++ drop i b) i (getD l i 0) ≡ take (suc i) l ++ drop (suc i) b
       go [] b i h k = absurd (omega arith)
       go (x ∷ l) [] i h k = absurd (omega arith)
       go (x ∷ l) (y ∷ b) zero h k = refl
@@ -84,8 +90,10 @@ module _ (l b : List ℕ) where
 
   -- all numbers are written
   pub filled-all : (i : ℕ) → i ≡ length l → i ≤ length b → take i l ++ drop i b ≡ filled l b
-  filled-all i e h = ap₂ _++_ (take-all i l (omega arith) ∙ sym (take-all (length b) l (omega arith))) (ap (λ n. drop n b) e)
+  filled-all i e h =
+      ap₂ _++_ (take-all i l (omega arith) ∙ sym (take-all (length b) l (omega arith))) (ap (λ n. drop n b) e)
 
   -- the buffer is full
   pub filled-up : (i : ℕ) → i ≡ length b → i ≤ length l → take i l ++ drop i b ≡ filled l b
-  filled-up i e h = ap₂ _++_ (ap (λ n. take n l) e) (drop-of-length-le b {i = i} (omega arith) ∙ sym (drop-of-length-le b {i = length l} (omega arith)))
+  filled-up i e h = ap₂ _++_ (ap (λ n. take n l) e)
+      (drop-of-length-le b {i = i} (omega arith) ∙ sym (drop-of-length-le b {i = length l} (omega arith)))

@@ -1,6 +1,6 @@
-// The codec for C and for Rust: plain numbers and lent bytes, each slice a pointer and a length. include/gii.h says the same to a C compiler.
-// What the promises speak of stands in specs/Definition.antt and
-// specs/NumbersDefinition.antt, and in profile's specs/LayoutDefinition.antt.
+// The codec for C and for Rust: plain numbers and lent bytes, each slice a pointer and a length. include/gii.h says the
+// same to a C compiler. What the promises speak of stands in specs/Definition.antt and specs/NumbersDefinition.antt,
+// and in profile's specs/LayoutDefinition.antt.
 mod numbers;
 
 ghost use mathlib.Core.Path.{_≡_};
@@ -42,8 +42,10 @@ pub extern "C" fn gii_block_size(profile: &[u8]) -> usize
 // Writes the block with the given data: 0, or the number of the first question that says no.
 #[no_mangle]
 pub extern "C" fn gii_encode(profile: &[u8], data: &[u8], out: &mut [u8]) -> u8
-    ensures number { λ n. ⌜ n ≡ answer-number (answer-of (writing (now (profile .entry)) (length (now («data» .entry))) (length (now (out .entry))))) ⌝ }
-    ensures block { λ _. ⌜ now (out .exit) ≡ written (writing (now (profile .entry)) (length (now («data» .entry))) (length (now (out .entry)))) (now («data» .entry)) (now (out .entry)) ⌝ }
+    ensures number { λ n. ⌜ n ≡ answer-number
+        (answer-of (writing (now (profile .entry)) (length (now («data» .entry))) (length (now (out .entry))))) ⌝ }
+    ensures block { λ _. ⌜ now (out .exit) ≡ written (writing (now (profile .entry)) (length (now («data» .entry)))
+        (length (now (out .entry)))) (now («data» .entry)) (now (out .entry)) ⌝ }
 {
     encoder::encode(profile, data, out).number()
 }
@@ -70,9 +72,12 @@ pub extern "C" fn gii_decode(
     form: u8,
     report: &mut [u8],
 ) -> u8
-    ensures number { λ n. ⌜ n ≡ answer-number (answer-to (reading (now (profile .entry)) (now (input .entry)) (length (now (out .entry))))) ⌝ }
-    ensures block { λ _. ⌜ now (out .exit) ≡ block-of (reading (now (profile .entry)) (now (input .entry)) (length (now (out .entry)))) (now (out .entry)) ⌝ }
-    ensures report { λ _. ⌜ now (report .exit) ≡ filled (numbers (reading (now (profile .entry)) (now (input .entry)) (length (now (out .entry))))) (now (report .entry)) ⌝ }
+    ensures number { λ n. ⌜ n ≡
+        answer-number (answer-to (reading (now (profile .entry)) (now (input .entry)) (length (now (out .entry))))) ⌝ }
+    ensures block { λ _. ⌜ now (out .exit) ≡ block-of (reading (now (profile .entry)) (now (input .entry))
+        (length (now (out .entry)))) (now (out .entry)) ⌝ }
+    ensures report { λ _. ⌜ now (report .exit) ≡ filled (numbers (reading (now (profile .entry)) (now (input .entry))
+        (length (now (out .entry))))) (now (report .entry)) ⌝ }
 {
     let r = decoder::decode(profile, input, out, form_of(form));
     let a = r.answer;
@@ -96,8 +101,10 @@ pub extern "C" fn gii_fetch(profile: &[u8], block: &[u8], i: usize) -> u8
 // Where the part starts in the block, 0 if the fetch is refused.
 #[no_mangle]
 pub extern "C" fn gii_fetch_start(profile: &[u8], block: &[u8], i: usize) -> usize
-    ensures { λ n. ⌜ n ≡ if-accepted (λ p. Start p i) (fetching (now (profile .entry)) (length (now (block .entry))) i) ⌝ }
-    ensures part { λ n. ⌜ Stands (fetching (now (profile .entry)) (length (now (block .entry))) i) i (now (block .entry)) n ⌝ }
+    ensures { λ n. ⌜ n ≡
+        if-accepted (λ p. Start p i) (fetching (now (profile .entry)) (length (now (block .entry))) i) ⌝ }
+    ensures part { λ n. ⌜ Stands (fetching (now (profile .entry)) (length (now (block .entry))) i) i
+        (now (block .entry)) n ⌝ }
 {
     match profile::fetch::answer(profile, block, i) {
         Answer::Accepted => profile::layout::accepted_start(profile, i as u8),
@@ -108,8 +115,10 @@ pub extern "C" fn gii_fetch_start(profile: &[u8], block: &[u8], i: usize) -> usi
 // The symbols of the part, 0 exactly if the fetch is refused.
 #[no_mangle]
 pub extern "C" fn gii_fetch_size(profile: &[u8], block: &[u8], i: usize) -> usize
-    ensures { λ n. ⌜ n ≡ length (Part (fetching (now (profile .entry)) (length (now (block .entry))) i) i (now (block .entry))) ⌝ }
-    ensures refused { λ n. ⌜ eqb n 0 ≡ refuses (answer-of (fetching (now (profile .entry)) (length (now (block .entry))) i)) ⌝ }
+    ensures { λ n. ⌜ n ≡
+        length (Part (fetching (now (profile .entry)) (length (now (block .entry))) i) i (now (block .entry))) ⌝ }
+    ensures refused { λ n. ⌜ eqb n 0 ≡
+        refuses (answer-of (fetching (now (profile .entry)) (length (now (block .entry))) i)) ⌝ }
 {
     profile::fetch::part(profile, block, i).len()
 }

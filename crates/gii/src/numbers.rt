@@ -5,14 +5,16 @@ ghost use mathlib.Core.List.{_++_};
 ghost use lib.ListN.{length, take};
 ghost use Rattle.stages.specs.Report.{verdict-of};
 ghost use Rattle.stages.specs.Report.{says};
-ghost use Rattle.gii.specs.NumbersDefinition.{unsettled-stage, stage-of, line-numbers, head-numbers, listed, filled};
+ghost use Rattle.gii.specs.NumbersDefinition.{unsettled-stage, stage-of, line-numbers};
+ghost use Rattle.gii.specs.NumbersDefinition.{head-numbers, listed, filled};
 use profile::Answer;
 use profile::Refusal;
 use profile::SUBWORDS;
 use stages::report::Line;
 use stages::report::Verdict;
 
-// The numbers of a report: the stage of an 8, the last stage, the changed symbols in two bytes, high byte first, and three for each of eight lines.
+// The numbers of a report: the stage of an 8, the last stage, the changed symbols in two bytes, high byte first, and
+// three for each of eight lines.
 pub const REPORT: usize = 28;
 
 fn unsettled_stage(q: Refusal) -> u8

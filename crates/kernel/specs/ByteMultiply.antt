@@ -9,7 +9,8 @@ use native.Mathlib.Decide.{ℕ-discrete}
 use native.Mathlib.Nat.{one-mul, zero-mul}
 use native.Mathlib.Omega.{arith}
 use lib.Bits.{xor-shifted}
-use Rattle.field.specs.Field.{F, α, _⊕_, _⊙_, of, of-xor, of-zero, of-one, of-double, zero-⊕, zero-⊙, one-⊙, ⊙-zero, ⊙-assoc, ⊕-⊙}
+use Rattle.field.specs.Field.{F, α, _⊕_, _⊙_, of, of-xor, of-zero, of-one, of-double, zero-⊕}
+use Rattle.field.specs.Field.{zero-⊙, one-⊙, ⊙-zero, ⊙-assoc, ⊕-⊙}
 
 abbrev pub Times : ℕ → ℕ → ℕ → Type 0
 Times a m p = of p ≡ of m ⊙ of a
@@ -40,7 +41,8 @@ last-bit m h =
     ∙ of-xor (m / 2 * 2) (m % 2)
     ∙ ap (λ (s : F). s ⊕ of (m % 2)) (ap of d ∙ of-double (m / 2) (omega arith))
 
-pub times-more : (a k m p q t : ℕ) → m < 256 → k ≡ m / 2 → t ≡ m % 2 → Times a k p → of q ≡ α ⊙ of p ⊕ of t ⊙ of a → Times a m q
+pub times-more : (a k m p q t : ℕ)
+    → m < 256 → k ≡ m / 2 → t ≡ m % 2 → Times a k p → of q ≡ α ⊙ of p ⊕ of t ⊙ of a → Times a m q
 times-more a k m p q t l high low h e =
     e ∙ ap₂ (λ (s : F) (b : ℕ). α ⊙ s ⊕ of b ⊙ of a) (h ∙ ap (λ (b : ℕ). of b ⊙ of a) high) low
     ∙ ap (λ (s : F). s ⊕ of (m % 2) ⊙ of a) (sym (⊙-assoc α (of (m / 2)) (of a)))

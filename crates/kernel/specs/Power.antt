@@ -30,7 +30,11 @@ power-room w p h = rw (p .is) (one-le-pow (p .exponent) 2 (omega arith), room (p
 
 pub power-more : (w : ℕ) → Power w → w < 256 → Power (w + w)
 power-more w p h =
-    record { exponent = suc (p .exponent); is = ap (λ (k : ℕ). k + k) (p .is) ∙ sym (two-pow-succ (p .exponent)); most = power-room w p h .1 }
+    record {
+      exponent = suc (p .exponent);
+      is = ap (λ (k : ℕ). k + k) (p .is) ∙ sym (two-pow-succ (p .exponent));
+      most = power-room w p h .1;
+    }
 
 pub power-high : (w i : ℕ) → Power w → i < w → of (w + i) ≡ of i ⊕ of w
 power-high w i p h = rw (p .is) (of-high (p .exponent) i (omega (arith, p .is)))

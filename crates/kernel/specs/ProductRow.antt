@@ -5,8 +5,8 @@
 --   ProductRow l            l is a row
 --   Level c w t l    the first w entries of the row of c, w a power of two, and t is w times c
 --
--- Proved: the first 256 products of c are a row with the factor c (row-products, factor-products). A loop that doubles w goes on by level-more:
--- entry w + i is entry i and w times c.
+-- Proved: the first 256 products of c are a row with the factor c (row-products, factor-products). A loop that doubles
+-- w goes on by level-more: entry w + i is entry i and w times c.
 use Prim.Native.Nat.{ℕ, _+_, _≤_, _<_}
 use mathlib.Core.Path.{_≡_, sym, ap, ap₂, _∙_}
 use mathlib.Core.List.{List}
@@ -33,14 +33,16 @@ pub record ProductRow (l : List ℕ) : Type 0 where
 
 pub factor-products : (l : List ℕ) (c : F) → bytes l ≡ cut 256 (products c) → factor l ≡ c
 unfolding factor products
-factor-products l c e = ap (λ (f : Series). f 1) e ∙ cut-low 256 (products c) 1 (omega arith) ∙ ap (λ (s : F). s ⊙ c) of-one ∙ one-⊙ c
+factor-products l c e = ap (λ (f : Series). f 1) e ∙ cut-low 256 (products c) 1 (omega arith)
+    ∙ ap (λ (s : F). s ⊙ c) of-one ∙ one-⊙ c
 
 pub row-products : (l : List ℕ) (c : F) → length l ≡ 256 → bytes l ≡ cut 256 (products c) → ProductRow l
 unfolding products
 row-products l c h e =
     record {
       long = omega arith;
-      at = λ x b. ap (λ (f : Series). f x) e ∙ cut-low 256 (products c) x b ∙ ap (λ (s : F). of x ⊙ s) (sym (factor-products l c e));
+      at = λ x b. ap (λ (f : Series). f x) e ∙ cut-low 256 (products c) x b
+          ∙ ap (λ (s : F). of x ⊙ s) (sym (factor-products l c e));
     }
 
 -- a lookup
@@ -62,16 +64,19 @@ level-none c t e =
       power = power-one;
       top = λ _. e ∙ sym (ap (λ (s : F). s ⊙ c) of-one ∙ one-⊙ c);
       long = length-replicate {A = ℕ} 256 0;
-      is = read-zeros of 0 of-zero 256 (products c) ∙ sym (cut-zero 0 (products c) (ap (λ (s : F). s ⊙ c) of-zero ∙ zero-⊙ c));
+      is = read-zeros of 0 of-zero 256 (products c)
+          ∙ sym (cut-zero 0 (products c) (ap (λ (s : F). s ⊙ c) of-zero ∙ zero-⊙ c));
     }
 
-pub level-more : {c : F} {w t : ℕ} {l : List ℕ} (u : ℕ) (m : List ℕ) → Level c w t l → w < 256 → of u ≡ α ⊙ of t → length m ≡ length l
+pub level-more : {c : F} {w t : ℕ} {l : List ℕ} (u : ℕ) (m : List ℕ)
+    → Level c w t l → w < 256 → of u ≡ α ⊙ of t → length m ≡ length l
     → bytes m ≡ bytes l ⊞ zpow w ⊠ cut w (λ i. bytes l i ⊕ of t) → Level c (w + w) u m
 unfolding products
 level-more {c} {w} {t} {l} u m p h e q n =
     record {
       power = power-more w (p .power) h;
-      top = λ b. e ∙ ap (λ (s : F). α ⊙ s) (p .top h) ∙ sym (⊙-assoc α (of w) c) ∙ ap (λ (s : F). s ⊙ c) (sym (of-double w (omega arith)));
+      top = λ b. e ∙ ap (λ (s : F). α ⊙ s) (p .top h) ∙ sym (⊙-assoc α (of w) c)
+          ∙ ap (λ (s : F). s ⊙ c) (sym (of-double w (omega arith)));
       long = q ∙ p .long;
       is = n ∙ ap₂ (λ (f g : Series). f ⊞ zpow w ⊠ g) (p .is) (cut-cong w _ _ next) ∙ sym (cut-join w w (products c));
     }

@@ -1,8 +1,8 @@
 -- Stores into arrays of bytes, as equations of series.
 --
--- Proved: a store at j adds one term at z^j (bytes-set, bytes-add). A loop that writes g after the last coefficient of f, or adds a multiple of g,
--- goes on by one coefficient (append-more, multiple-more), and what stands before is kept (append-low). The first coefficients of a series are
--- found by what they are (cut-cong) and in two parts (cut-join).
+-- Proved: a store at j adds one term at z^j (bytes-set, bytes-add). A loop that writes g after the last coefficient of
+-- f, or adds a multiple of g, goes on by one coefficient (append-more, multiple-more), and what stands before is kept
+-- (append-low). The first coefficients of a series are found by what they are (cut-cong) and in two parts (cut-join).
 use Prim.Native.Nat.{ℕ, _+_, _<_}
 use mathlib.Core.Path.{_≡_, sym, ap, ap₂, _∙_, fun-ext}
 use mathlib.Core.List.{List}
@@ -19,7 +19,8 @@ use Rattle.series.specs.Degree.{below}
 use Rattle.series.specs.Array.{bytes, read-at, read-set-same, read-set-other}
 
 pub bytes-set : (l : List ℕ) (j v : ℕ) → j < length l → bytes (set l j v) ≡ bytes l ⊞ K (bytes l j ⊕ of v) ⊠ zpow j
-bytes-set l j v h = fun-ext (λ i. go i (ℕ-discrete i j) ∙ sym (⊞-at (bytes l) _ i ∙ ap (λ (s : F). bytes l i ⊕ s) (K-⊠-at _ (zpow j) i)))
+bytes-set l j v h = fun-ext (λ i.
+    go i (ℕ-discrete i j) ∙ sym (⊞-at (bytes l) _ i ∙ ap (λ (s : F). bytes l i ⊕ s) (K-⊠-at _ (zpow j) i)))
   where
     go : (i : ℕ) → Dec (i ≡ j) → bytes (set l j v) i ≡ bytes l i ⊕ (bytes l j ⊕ of v) ⊙ zpow j i
     go i (yes e) = rw (e, zpow-one) (read-set-same of 0 l j v h ∙ simp ⊙-ring)
@@ -29,7 +30,8 @@ pub bytes-xor : (l : List ℕ) (i y : ℕ) → of (bitXor (getD l i 0) y) ≡ by
 bytes-xor l i y = of-xor _ y ∙ ap (λ (s : F). s ⊕ of y) (sym (read-at of 0 l i))
 
 -- a term added to an entry
-pub bytes-add : (l : List ℕ) (j v : ℕ) (s : F) → j < length l → of v ≡ bytes l j ⊕ s → bytes (set l j v) ≡ bytes l ⊞ K s ⊠ zpow j
+pub bytes-add : (l : List ℕ) (j v : ℕ) (s : F) → j < length l → of v ≡ bytes l j ⊕ s
+    → bytes (set l j v) ≡ bytes l ⊞ K s ⊠ zpow j
 bytes-add l j v s h e =
     bytes-set l j v h ∙ ap (λ (t : F). bytes l ⊞ K t ⊠ zpow j) (ap (λ (t : F). bytes l j ⊕ t) e ∙ ⊕-self-left _ s)
 
@@ -37,18 +39,21 @@ pub append-none : (a : ℕ) (f g : Series) → f ≡ f ⊞ zpow a ⊠ cut 0 g
 append-none a f g = rw cut-none (simp ⊠-ring)
 
 -- g added from position a on
-pub add-more : (l : List ℕ) (a i v : ℕ) (f g : Series) → a + i < length l → bytes l ≡ f ⊞ zpow a ⊠ cut i g → of v ≡ bytes l (a + i) ⊕ g i
+pub add-more : (l : List ℕ) (a i v : ℕ) (f g : Series) → a + i < length l → bytes l ≡ f ⊞ zpow a ⊠ cut i g
+    → of v ≡ bytes l (a + i) ⊕ g i
     → bytes (set l (a + i) v) ≡ f ⊞ zpow a ⊠ cut (i + 1) g
 add-more l a i v f g h e q = bytes-add l (a + i) v (g i) h q ∙ rw (e, zpow-add a i, add-one, cut-suc i g) (simp ⊠-ring)
 
 -- g written there, where nothing stood
-pub append-more : (l : List ℕ) (a i v : ℕ) (f g : Series) → a + i < length l → below a f → bytes l ≡ f ⊞ zpow a ⊠ cut i g → of v ≡ g i
+pub append-more : (l : List ℕ) (a i v : ℕ) (f g : Series)
+    → a + i < length l → below a f → bytes l ≡ f ⊞ zpow a ⊠ cut i g → of v ≡ g i
     → bytes (set l (a + i) v) ≡ f ⊞ zpow a ⊠ cut (i + 1) g
 append-more l a i v f g h b e q =
     add-more l a i v f g h e (q ∙ sym (ap (λ (t : F). t ⊕ g i) none ∙ zero-⊕ (g i)))
   where
     none : bytes l (a + i) ≡ 𝟎
-    none = ap (λ (t : Series). t (a + i)) e ∙ rw (⊞-at, b (a + i) (omega arith), zpow-at, cut-high i g i (omega arith)) (zero-⊕ 𝟎)
+    none = ap (λ (t : Series). t (a + i)) e
+        ∙ rw (⊞-at, b (a + i) (omega arith), zpow-at, cut-high i g i (omega arith)) (zero-⊕ 𝟎)
 
 pub append-low : (l : List ℕ) (a i : ℕ) (f g : Series) → i < a → bytes l ≡ f ⊞ zpow a ⊠ g → bytes l i ≡ f i
 append-low l a i f g h e = ap (λ (t : Series). t i) e ∙ rw (⊞-at, zpow-low a g i h) (⊕-zero (f i))
@@ -56,7 +61,8 @@ append-low l a i f g h e = ap (λ (t : Series). t i) e ∙ rw (⊞-at, zpow-low 
 pub multiple-none : (a : F) (f g : Series) → f ≡ f ⊞ K a ⊠ cut 0 g
 multiple-none a f g = rw cut-none (simp ⊠-ring)
 
-pub multiple-more : (l : List ℕ) (i v : ℕ) (a : F) (f g : Series) → i < length l → bytes l ≡ f ⊞ K a ⊠ cut i g → of v ≡ bytes l i ⊕ a ⊙ g i
+pub multiple-more : (l : List ℕ) (i v : ℕ) (a : F) (f g : Series) → i < length l → bytes l ≡ f ⊞ K a ⊠ cut i g
+    → of v ≡ bytes l i ⊕ a ⊙ g i
     → bytes (set l i v) ≡ f ⊞ K a ⊠ cut (i + 1) g
 multiple-more l i v a f g h e q = bytes-add l i v (a ⊙ g i) h q ∙ rw (e, add-one, cut-suc i g) (simp ⊠-ring)
 
@@ -73,5 +79,6 @@ cut-join m n f = cut-drop m (cut (m + n) f) ∙ ap₂ (λ (s t : Series). s ⊞ 
 
     high : cut n (drop m f) ≡ drop m (cut (m + n) f)
     high =
-        cut-unique n (drop m f) _ (λ i l. drop-at m f i ∙ sym (drop-at m (cut (m + n) f) i ∙ cut-low (m + n) f (m + i) (omega arith)))
+        cut-unique n (drop m f) _
+        (λ i l. drop-at m f i ∙ sym (drop-at m (cut (m + n) f) i ∙ cut-low (m + n) f (m + i) (omega arith)))
         (λ i l. drop-at m (cut (m + n) f) i ∙ cut-high (m + n) f (m + i) (omega arith))

@@ -3,8 +3,8 @@
 --   PlainBelow, LookaheadBelow, ScaledBelow   the polynomials of a state have coefficients below n alone
 --   Bounded n rounds k                        so it is in each form, after the first k events of these rounds
 --
--- Proved: each form's whole state, as one equation (plain-run, lookahead-run, scaled-run); from these the claim (agreement);
--- 49 coefficients hold every polynomial of a run of at most 48 syndromes (fits).
+-- Proved: each form's whole state, as one equation (plain-run, lookahead-run, scaled-run); from these the claim
+-- (agreement); 49 coefficients hold every polynomial of a run of at most 48 syndromes (fits).
 use Prim.Native.Nat.{ℕ, _+_, _≤_, _<_}
 use mathlib.Core.Path.{_≡_, refl, sym, ap, _∙_, subst}
 use mathlib.Core.Bool.{Bool, cond}
@@ -19,7 +19,8 @@ use Rattle.key_equation.specs.Shared.{len, ahead}
 use Rattle.key_equation.specs.Plain as Plain
 use Rattle.key_equation.specs.Lookahead as Lookahead
 use Rattle.key_equation.specs.Scaled as Scaled
-use Rattle.key_equation.specs.Run.{Factors, plain, lookahead, scaled, run, iterations, so-far, joined, measure, measure-swapped, factors}
+use Rattle.key_equation.specs.Run.{Factors, plain, lookahead, scaled, run, iterations, so-far, joined}
+use Rattle.key_equation.specs.Run.{measure, measure-swapped, factors}
 use Rattle.key_equation.specs.Claim.{PlainAgrees, LookaheadAgrees, ScaledAgrees, Agreed, lookahead-is, scaled-is}
 use Rattle.key_equation.specs.Ahead.{ahead-below}
 use Rattle.key_equation.specs.LookaheadStep as LookaheadStep
@@ -157,7 +158,11 @@ module _ (rounds : List (List F)) (k : ℕ) where
 --
 -- There is no bound on the number of syndromes.
 pub agreement : (rounds : List (List F)) (k : ℕ) → Agreed rounds k
-agreement rounds k = record { in-plain = plain-agrees rounds k; in-lookahead = lookahead-agrees rounds k; in-scaled = scaled-agrees rounds k }
+agreement rounds k = record {
+  in-plain = plain-agrees rounds k;
+  in-lookahead = lookahead-agrees rounds k;
+  in-scaled = scaled-agrees rounds k;
+}
 
 -- ---- degrees
 

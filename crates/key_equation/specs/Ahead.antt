@@ -2,10 +2,10 @@
 --
 --   Agree r S J   S and J have the same syndromes below r
 --
--- Proved, with T r f for ahead r f S: T (r + 1) f is T r f /z + S_(r+1) f (ahead-next) and T (r + 1) (zf) is T r f + S_(r+1) zf (ahead-next-Z);
--- T r is linear; an entry adds S_u f to it (ahead-enter); it is zero where the syndromes are (ahead-zero); it has no more coefficients than f
--- (ahead-below); it reads the syndromes up to r alone (ahead-agree). Its constant term at Λ is the plain form's δ (δ-ahead), which
--- is coefficient r of Λ·S (δ-convolution).
+-- Proved, with T r f for ahead r f S: T (r + 1) f is T r f /z + S_(r+1) f (ahead-next) and T (r + 1) (zf) is T r
+-- f + S_(r+1) zf (ahead-next-Z); T r is linear; an entry adds S_u f to it (ahead-enter); it is zero where the syndromes
+-- are (ahead-zero); it has no more coefficients than f (ahead-below); it reads the syndromes up to r alone
+-- (ahead-agree). Its constant term at Λ is the plain form's δ (δ-ahead), which is coefficient r of Λ·S (δ-convolution).
 use Prim.Native.Nat.{ℕ, suc, _+_, _-_, _<_}
 use mathlib.Core.Path.{_≡_, refl, sym, ap, _∙_, fun-ext}
 use mathlib.Core.Bool.{Bool, true, false, cond, true≢false}
@@ -13,9 +13,11 @@ use mathlib.Core.Logic.{_≢_}
 use native.Mathlib.Omega.{arith}
 use native.Mathlib.Nat.{add-zero, zero-add, suc-add, add-suc, suc-sub-suc, sub-zero}
 use lib.IntN.{ℤ}
-use Rattle.field.specs.Field.{F, 𝟎, 𝟏, _⊕_, _⊙_, isZero, ⊕-comm, ⊙-comm, ⊙-zero, zero-⊙, ⊙-ring, one≢zero, isZero-yes, isZero-false}
+use Rattle.field.specs.Field.{F, 𝟎, 𝟏, _⊕_, _⊙_, isZero, ⊕-comm, ⊙-comm, ⊙-zero, zero-⊙, ⊙-ring}
+use Rattle.field.specs.Field.{one≢zero, isZero-yes, isZero-false}
 use Rattle.series.specs.Sum.{sum, sum-head, sum-cong, sum-zero, sum-⊕, ⊙-sum}
-use Rattle.series.specs.Series.{Series, O, _⊞_, _⊠_, K, Z, tail, O-at, ⊞-at, ⊠-at, K-⊠-at, Z-⊠-at, tail-at, tail-⊞, tail-K-⊠}
+use Rattle.series.specs.Series.{Series, O, _⊞_, _⊠_, K, Z, tail, O-at, ⊞-at, ⊠-at, K-⊠-at}
+use Rattle.series.specs.Series.{Z-⊠-at, tail-at, tail-⊞, tail-K-⊠}
 use Rattle.series.specs.Degree.{below}
 use Rattle.key_equation.specs.Shared.{swaps, from-to, ahead, or-one}
 use Rattle.key_equation.specs.Plain as Plain
@@ -52,18 +54,22 @@ ahead-next r f S = fun-ext at-j
     older j = simp (suc-sub-suc, add-suc) (sym (ahead-at r f S (suc j) ∙ simp suc-add))
 
     at-j : (j : ℕ) → ahead (suc r) f S j ≡ (tail (ahead r f S) ⊞ K (S (suc r)) ⊠ f) j
-    at-j j = peel (suc r) f S j ∙ ap (λ t. f j ⊙ S (suc r) ⊕ t) (older j) ∙ ⊕-comm _ _ ∙ simp (⊞-at, K-⊠-at, tail-at, ⊙-comm)
+    at-j j = peel (suc r) f S j ∙ ap (λ t. f j ⊙ S (suc r) ⊕ t) (older j) ∙ ⊕-comm _ _
+        ∙ simp (⊞-at, K-⊠-at, tail-at, ⊙-comm)
 
 pub ahead-Z : (r : ℕ) (f S : Series) → tail (ahead r (Z ⊠ f) S) ≡ ahead r f S
-ahead-Z r f S = fun-ext (λ j. tail-at _ j ∙ ahead-at r (Z ⊠ f) S (suc j) ∙ simp (suc-add, Z-⊠-at) (sym (ahead-at r f S j)))
+ahead-Z r f S =
+    fun-ext (λ j. tail-at _ j ∙ ahead-at r (Z ⊠ f) S (suc j) ∙ simp (suc-add, Z-⊠-at) (sym (ahead-at r f S j)))
 
 pub ahead-next-Z : (r : ℕ) (f S : Series) → ahead (suc r) (Z ⊠ f) S ≡ ahead r f S ⊞ K (S (suc r)) ⊠ (Z ⊠ f)
 ahead-next-Z r f S = ahead-next r (Z ⊠ f) S ∙ rw ahead-Z
 
-pub ahead-linear : (r : ℕ) (a b : F) (f g S : Series) → ahead r (K a ⊠ f ⊞ K b ⊠ g) S ≡ K a ⊠ ahead r f S ⊞ K b ⊠ ahead r g S
+pub ahead-linear : (r : ℕ) (a b : F) (f g S : Series)
+    → ahead r (K a ⊠ f ⊞ K b ⊠ g) S ≡ K a ⊠ ahead r f S ⊞ K b ⊠ ahead r g S
 ahead-linear r a b f g S = fun-ext at-j
   where
-    term : (j i : ℕ) → (K a ⊠ f ⊞ K b ⊠ g) (j + i) ⊙ S (r - i) ≡ a ⊙ (f (j + i) ⊙ S (r - i)) ⊕ b ⊙ (g (j + i) ⊙ S (r - i))
+    term : (j i : ℕ)
+        → (K a ⊠ f ⊞ K b ⊠ g) (j + i) ⊙ S (r - i) ≡ a ⊙ (f (j + i) ⊙ S (r - i)) ⊕ b ⊙ (g (j + i) ⊙ S (r - i))
     term j i = simp (⊞-at, K-⊠-at, ⊙-ring)
 
     at-j : (j : ℕ) → ahead r (K a ⊠ f ⊞ K b ⊠ g) S j ≡ (K a ⊠ ahead r f S ⊞ K b ⊠ ahead r g S) j
@@ -92,14 +98,16 @@ ahead-enter u f S S′ h z = fun-ext at-j
     at-j j = peel u f S′ j ∙ rw (older j) (sym (⊞-at _ _ j ∙ rw (peel u f S j, z, K-⊠-at) (simp ⊙-ring)))
 
 pub ahead-zero : (r : ℕ) (f S : Series) → ((i : ℕ) → S i ≡ 𝟎) → ahead r f S ≡ O
-ahead-zero r f S z = fun-ext (λ j. ahead-at r f S j ∙ sum-zero (suc r) _ (λ i l. simp (z (r - i), ⊙-zero)) ∙ sym (O-at j))
+ahead-zero r f S z =
+    fun-ext (λ j. ahead-at r f S j ∙ sum-zero (suc r) _ (λ i l. simp (z (r - i), ⊙-zero)) ∙ sym (O-at j))
 
 pub ahead-below : (n r : ℕ) (f S : Series) → below n f → below n (ahead r f S)
 ahead-below n r f S h j l = ahead-at r f S j ∙ sum-zero (suc r) _ (λ i p. simp (h (j + i) (omega arith), zero-⊙))
 
 pub ahead-agree : (r : ℕ) (f S J : Series) → Agree (suc r) S J → ahead r f S ≡ ahead r f J
 ahead-agree r f S J h =
-    fun-ext (λ j. ahead-at r f S j ∙ sum-cong (suc r) _ _ (λ i l. ap (λ t. f (j + i) ⊙ t) (h (r - i) (omega arith))) ∙ sym (ahead-at r f J j))
+    fun-ext (λ j. ahead-at r f S j ∙ sum-cong (suc r) _ _ (λ i l. ap (λ t. f (j + i) ⊙ t) (h (r - i) (omega arith)))
+    ∙ sym (ahead-at r f J j))
 
 -- ---- swaps and or-one
 

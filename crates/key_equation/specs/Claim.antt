@@ -15,9 +15,11 @@ use Rattle.key_equation.specs.Shared.{ahead, from-to, or-one, len}
 use Rattle.key_equation.specs.Plain as Plain
 use Rattle.key_equation.specs.Lookahead as Lookahead
 use Rattle.key_equation.specs.Scaled as Scaled
-use Rattle.key_equation.specs.Run.{Factors, At, plain, lookahead, scaled, run, iterations, so-far, joined, measure, measure-swapped, factors}
+use Rattle.key_equation.specs.Run.{Factors, At, plain, lookahead, scaled, run, iterations, so-far, joined}
+use Rattle.key_equation.specs.Run.{measure, measure-swapped, factors}
 
--- After r iterations: S the syndromes so far, 0 past the round; m the measure, swapped the iterations at which it swapped; p where the run is.
+-- After r iterations: S the syndromes so far, 0 past the round; m the measure, swapped the iterations at which it
+-- swapped; p where the run is.
 
 pub record PlainAgrees (r : ℕ) (m : Plain.State) (swapped : ℕ → Bool) (p : At plain) : Type 0 where
   -- the form has swapped at those iterations at which the measure did, and at no other
@@ -53,7 +55,8 @@ pub record LookaheadAgrees (r : ℕ) (S : Series) (m : Plain.State) (swapped : �
   pub h2 : p .state .h2 ≡ p .state .γ ⊙ S (r + 1) ⊙ S (r + 2)
 
 -- x is the factors a and b
-pub record ScaledAgrees (r : ℕ) (S : Series) (m : Plain.State) (x : Factors) (swapped : ℕ → Bool) (p : At scaled) : Type 0 where
+pub record ScaledAgrees (r : ℕ) (S : Series) (m : Plain.State) (x : Factors) (swapped : ℕ → Bool)
+    (p : At scaled) : Type 0 where
   -- the form has swapped at those iterations at which the measure did, and at no other
   pub swaps : p .swapped ≡ swapped
   -- it has the measure's k and L
@@ -86,7 +89,8 @@ pub record Agreed (rounds : List (List F)) (k : ℕ) : Type 0 where
       (measure-swapped (entry (joined rounds)) (iterations rounds k)) (run lookahead rounds k)
   pub in-scaled :
       ScaledAgrees (iterations rounds k) (so-far rounds k) (measure (entry (joined rounds)) (iterations rounds k))
-      (factors (entry (joined rounds)) (iterations rounds k)) (measure-swapped (entry (joined rounds)) (iterations rounds k)) (run scaled rounds k)
+      (factors (entry (joined rounds)) (iterations rounds k))
+      (measure-swapped (entry (joined rounds)) (iterations rounds k)) (run scaled rounds k)
 
 -- ---- the states as defined, from the measure m after r iterations and S, the syndromes so far
 

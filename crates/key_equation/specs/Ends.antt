@@ -2,9 +2,9 @@
 --
 --   finish f rounds   the run after all of its events
 --
--- Proved: events happen one list after the other (after-append); the whole run's end in each form (finish-is, and for the states plain-end,
--- lookahead-end, scaled-end). How the syndromes are cut into rounds does not count in it (finish-joined), so an empty round changes nothing
--- (empty-round).
+-- Proved: events happen one list after the other (after-append); the whole run's end in each form (finish-is, and for
+-- the states plain-end, lookahead-end, scaled-end). How the syndromes are cut into rounds does not count in it
+-- (finish-joined), so an empty round changes nothing (empty-round).
 use Prim.Native.Nat.{ℕ}
 use mathlib.Core.Path.{_≡_, refl, sym, ap, ap₂, _∙_}
 use mathlib.Core.List.{List, [], _∷_, _++_, append-assoc}
@@ -42,16 +42,19 @@ after-append f (e ∷ es) fs p = after-append f es fs (happen f e p)
 pub joined-append : (rounds more : List (List F)) → joined (rounds ++ more) ≡ joined rounds ++ joined more
 unfolding joined
 joined-append [] more = refl
-joined-append (round ∷ rest) more = ap (λ t. round ++ t) (joined-append rest more) ∙ sym (append-assoc round (joined rest) (joined more))
+joined-append (round ∷ rest) more = ap (λ t. round ++ t) (joined-append rest more)
+    ∙ sym (append-assoc round (joined rest) (joined more))
 
 module _ (f : Form) (want : ℕ → Series → Plain.State → Factors → f .State) (keeps : Keeps f want) where
-  pub finish-is : (rounds : List (List F)) → finish f rounds ≡ wanted f want (joined rounds) (joined rounds) (length (joined rounds))
+  pub finish-is : (rounds : List (List F))
+      → finish f rounds ≡ wanted f want (joined rounds) (joined rounds) (length (joined rounds))
   finish-is rounds =
       sym (run-end f rounds)
       ∙ run-is f want keeps rounds (length (events rounds))
       ∙ ap₂ (wanted f want (joined rounds)) (end-entered rounds) (end-iterations rounds)
 
-  pub finish-joined : (rounds others : List (List F)) → joined rounds ≡ joined others → finish f rounds ≡ finish f others
+  pub finish-joined : (rounds others : List (List F)) → joined rounds ≡ joined others
+      → finish f rounds ≡ finish f others
   finish-joined rounds others e = finish-is rounds ∙ ap (λ l. wanted f want l l (length l)) e ∙ sym (finish-is others)
 
   pub empty-round : (rounds more : List (List F)) → finish f (rounds ++ ([] ∷ more)) ≡ finish f (rounds ++ more)

@@ -1,9 +1,10 @@
--- The length L in place of k: k = r − 2L after r iterations. A program keeps L, a natural number; the definitions keep k.
+-- The length L in place of k: k = r − 2L after r iterations. A program keeps L, a natural number; the
+-- definitions keep k.
 --
 --   k-of r L   r − 2L
 --
--- Proved: k at the start, at a hold (the length stays) and at a swap (it becomes r + 1 − L); an iteration is a swap if its discrepancy is
--- not 0 and 2L ≤ r; L is the length that `len` reads from k.
+-- Proved: k at the start, at a hold (the length stays) and at a swap (it becomes r + 1 − L); an iteration is a swap if
+-- its discrepancy is not 0 and 2L ≤ r; L is the length that `len` reads from k.
 use Prim.Native.Nat.{ℕ, zero, suc, _+_, _-_, _≤_, _<_, _/_}
 use mathlib.Core.Path.{_≡_, refl, sym, ap, ap₂, _∙_}
 use mathlib.Core.Logic.{_≢_}
@@ -55,7 +56,8 @@ k-of-hold r L = by-sign _ r L at-pos at-neg
 
     at-neg : (n : ℕ) → L + L ≡ r + suc n → k-hold (k-of r L) ≡ k-of (suc r) L
     at-neg zero e = ap k-hold (k-of-neg r L 0 e) ∙ sym (k-of-pos (suc r) L 0 (omega arith))
-    at-neg (suc n) e = ap k-hold (k-of-neg r L (suc n) e) ∙ +ℤ-one (negsuc (suc n)) ∙ sym (k-of-neg (suc r) L n (omega arith))
+    at-neg (suc n) e = ap k-hold (k-of-neg r L (suc n) e) ∙ +ℤ-one (negsuc (suc n))
+        ∙ sym (k-of-neg (suc r) L n (omega arith))
 
 pub k-of-swap : (r L : ℕ) → L + L ≤ r → k-swap (k-of r L) ≡ k-of (suc r) (suc r - L)
 k-of-swap r L h =

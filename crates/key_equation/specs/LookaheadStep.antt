@@ -1,5 +1,5 @@
--- The lookahead form keeps its state as defined (`lookahead-is`): at the start (start-is), through an entry (enter-is), through an iteration
--- (iterate-is); and it swaps with the plain form (swapping-is).
+-- The lookahead form keeps its state as defined (`lookahead-is`): at the start (start-is), through an entry (enter-is),
+-- through an iteration (iterate-is); and it swaps with the plain form (swapping-is).
 use Prim.Native.Nat.{ℕ, suc, _+_}
 use mathlib.Core.Path.{_≡_, refl, sym, ap, _∙_}
 use mathlib.Core.Bool.{Bool, true, false, cond}
@@ -11,7 +11,8 @@ use Rattle.key_equation.specs.Shared.{ahead, swaps}
 use Rattle.key_equation.specs.Plain as Plain
 use Rattle.key_equation.specs.Lookahead as Lookahead
 use Rattle.key_equation.specs.Claim.{lookahead-is}
-use Rattle.key_equation.specs.Ahead.{Agree, δ-ahead, ahead-next, ahead-next-Z, ahead-update, ahead-enter, ahead-zero}
+use Rattle.key_equation.specs.Ahead.{Agree, δ-ahead, ahead-next, ahead-next-Z}
+use Rattle.key_equation.specs.Ahead.{ahead-update, ahead-enter, ahead-zero}
 
 pub start-is : (S : Series) → ((i : ℕ) → S i ≡ 𝟎) → Lookahead.start ≡ lookahead-is 0 S Plain.start
 start-is S z = λ i. record {
@@ -33,7 +34,8 @@ start-is S z = λ i. record {
     none : (x : F) (j : ℕ) → 𝟎 ≡ x ⊙ S j
     none x j = sym (rw (z j) (⊙-zero x))
 
-pub enter-is : (u : ℕ) (S S′ : Series) (m : Plain.State) → Agree u S S′ → S u ≡ 𝟎 → Lookahead.enter u S′ (lookahead-is u S m) ≡ lookahead-is u S′ m
+pub enter-is : (u : ℕ) (S S′ : Series) (m : Plain.State) → Agree u S S′ → S u ≡ 𝟎
+    → Lookahead.enter u S′ (lookahead-is u S m) ≡ lookahead-is u S′ m
 enter-is u S S′ m h z = λ i. record {
   Λ = m .Λ;
   B = m .B;
@@ -65,7 +67,8 @@ module _ (r : ℕ) (S : Series) (m : Plain.State) where
   Δ-is : Lookahead.next-Δ w ≡ ahead (suc r) (Plain.update δ m) S
   Δ-is = sym (ahead-update r (m .γ) δ (m .Λ) (m .B) S ∙ simp (towards-suc, ⊠-ring))
 
-  δS-is : m .γ ⊙ S (r + 2) ⊙ ahead r (m .Λ) S 1 ⊕ m .γ ⊙ S (r + 1) ⊙ S (r + 2) ⊙ m .Λ 0 ⊕ δ ⊙ (ahead r (m .B) S 0 ⊙ S (r + 2))
+  δS-is : m .γ ⊙ S (r + 2) ⊙ ahead r (m .Λ) S 1 ⊕ m .γ ⊙ S (r + 1) ⊙ S (r + 2) ⊙ m .Λ 0
+      ⊕ δ ⊙ (ahead r (m .B) S 0 ⊙ S (r + 2))
       ≡ Lookahead.next-Δ w 0 ⊙ S (r + 2)
   δS-is = simp (⊞-at, K-⊠-at, Z-⊠-at0, tail-at, ⊙-ring)
 
@@ -123,7 +126,8 @@ module _ (r : ℕ) (S : Series) (m : Plain.State) where
       Θ-is : tail (ahead r (m .Λ) S) ⊞ K (S (r + 1)) ⊠ m .Λ ≡ ahead (suc r) (m .Λ) S
       Θ-is = sym (ahead-next r (m .Λ) S ∙ simp towards-suc)
 
-      θS-is : S (r + 3) ⊙ ahead r (m .Λ) S 1 ⊕ S (r + 1) ⊙ S (r + 3) ⊙ m .Λ 0 ≡ (tail (ahead r (m .Λ) S) ⊞ K (S (r + 1)) ⊠ m .Λ) 0 ⊙ S (r + 3)
+      θS-is : S (r + 3) ⊙ ahead r (m .Λ) S 1 ⊕ S (r + 1) ⊙ S (r + 3) ⊙ m .Λ 0
+          ≡ (tail (ahead r (m .Λ) S) ⊞ K (S (r + 1)) ⊠ m .Λ) 0 ⊙ S (r + 3)
       θS-is = simp (⊞-at, K-⊠-at, tail-at, ⊙-ring)
 
   hold-is : Lookahead.hold r S w ≡ lookahead-is (suc r) S (Plain.hold δ m)
@@ -142,6 +146,7 @@ module _ (r : ℕ) (S : Series) (m : Plain.State) where
   unfolding Lookahead.iterate Plain.iterate
   iterate-is = rw (δ-ahead r S m) (go (swaps δ (m .k)))
     where
-      go : (b : Bool) → cond b (Lookahead.swap r S w) (Lookahead.hold r S w) ≡ lookahead-is (suc r) S (cond b (Plain.swap δ m) (Plain.hold δ m))
+      go : (b : Bool) → cond b (Lookahead.swap r S w) (Lookahead.hold r S w)
+          ≡ lookahead-is (suc r) S (cond b (Plain.swap δ m) (Plain.hold δ m))
       go true = swap-is
       go false = hold-is

@@ -1,8 +1,8 @@
 -- The measure and the factors.
 --
--- Proved: γ is never zero (measure-γ), nor is a factor (factors-nonzero); after r iterations Λ and B have coefficients 0 to r alone (measure-below);
--- iteration r reads the syndromes up to r alone (δ-agree), so that syndromes that agree below r give the same measure (measure-agree) and the same
--- factors (factors-agree).
+-- Proved: γ is never zero (measure-γ), nor is a factor (factors-nonzero); after r iterations Λ and B have coefficients
+-- 0 to r alone (measure-below); iteration r reads the syndromes up to r alone (δ-agree), so that syndromes that agree
+-- below r give the same measure (measure-agree) and the same factors (factors-agree).
 use Prim.Native.Nat.{ℕ, zero, suc}
 use mathlib.Core.Path.{_≡_, refl, sym, ap, _∙_}
 use mathlib.Core.Bool.{Bool, true, false, cond}
@@ -47,15 +47,18 @@ factors-nonzero S (suc r) = next-nonzero _ _ (Plain.swapping r S (measure S r)) 
 pub measure-below : (S : Series) (r : ℕ) → below (suc r) (measure S r .Λ) × below (suc r) (measure S r .B)
 unfolding measure Plain.iterate
 measure-below S zero = (below-K 𝟏, below-K 𝟏)
-measure-below S (suc r) = go (measure S r) (measure-below S r) (Plain.δ r S (measure S r)) (Plain.swapping r S (measure S r))
+measure-below S (suc r) =
+    go (measure S r) (measure-below S r) (Plain.δ r S (measure S r)) (Plain.swapping r S (measure S r))
   where
     wider : (f : Series) → below (suc r) f → below (suc (suc r)) f
     wider f p = below-weaken _ _ f p (omega arith)
 
     go : (m : Plain.State) → below (suc r) (m .Λ) × below (suc r) (m .B) → (d : F) (b : Bool)
-        → below (suc (suc r)) (cond b (Plain.swap d m) (Plain.hold d m) .Λ) × below (suc (suc r)) (cond b (Plain.swap d m) (Plain.hold d m) .B)
+        → below (suc (suc r)) (cond b (Plain.swap d m) (Plain.hold d m) .Λ)
+        × below (suc (suc r)) (cond b (Plain.swap d m) (Plain.hold d m) .B)
     go m (p, q) d true = (below-⊞ _ _ _ (below-K-⊠ _ _ _ (wider _ p)) (below-K-⊠ _ _ _ (below-Z-⊠ _ _ q)), wider _ p)
-    go m (p, q) d false = (below-⊞ _ _ _ (below-K-⊠ _ _ _ (wider _ p)) (below-K-⊠ _ _ _ (below-Z-⊠ _ _ q)), below-Z-⊠ _ _ q)
+    go m (p, q) d false =
+        (below-⊞ _ _ _ (below-K-⊠ _ _ _ (wider _ p)) (below-K-⊠ _ _ _ (below-Z-⊠ _ _ q)), below-Z-⊠ _ _ q)
 
 -- ---- only the syndromes up to r count
 

@@ -1,10 +1,12 @@
 -- Runs, event by event (FORMAT 8.1); the measure (8.13); the factors a and b of the scaled form (8.14).
 --
---   Form               a form: its states, the start, entering a round, an iteration, and whether the iteration is a swap
+--   Form               a form: its states, the start, entering a round, an iteration, and whether the
+--                      iteration is a swap
 --   joined rounds      the syndromes of all rounds, one after the other
 --   events rounds      what happens in a run: for each round in turn, the entry and then an iteration for each syndrome
 --   run f rounds k     where the run in form f is after its first k events
---   iterations, so-far how many of the first k events are iterations; the syndromes of the rounds entered by then. No form has a say in them
+--   iterations, so-far how many of the first k events are iterations; the syndromes of the rounds entered by then. No
+--                      form has a say in them
 --   measure S r        the plain form after r iterations over the joined syndromes S; no form's answer enters it
 --   factors S r        a and b, from the measure alone
 use Prim.Native.Nat.{ℕ, zero, suc}
@@ -28,7 +30,13 @@ pub record Form : Type 1 where
   pub swapping : ℕ → Series → State → Bool
 
 abbrev pub plain : Form
-plain = record { State = Plain.State; start = Plain.start; enter = Plain.enter; iterate = Plain.iterate; swapping = Plain.swapping }
+plain = record {
+  State = Plain.State;
+  start = Plain.start;
+  enter = Plain.enter;
+  iterate = Plain.iterate;
+  swapping = Plain.swapping;
+}
 
 abbrev pub lookahead : Form
 lookahead = record {
@@ -40,7 +48,13 @@ lookahead = record {
 }
 
 abbrev pub scaled : Form
-scaled = record { State = Scaled.State; start = Scaled.start; enter = Scaled.enter; iterate = Scaled.iterate; swapping = Scaled.swapping }
+scaled = record {
+  State = Scaled.State;
+  start = Scaled.start;
+  enter = Scaled.enter;
+  iterate = Scaled.iterate;
+  swapping = Scaled.swapping;
+}
 
 -- ---- a run
 

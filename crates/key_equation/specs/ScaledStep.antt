@@ -1,24 +1,25 @@
--- The scaled form keeps its state as defined (`scaled-is`): at the start (start-is), through an entry (enter-is), through an iteration
--- (iterate-is); and it swaps with the plain form (swapping-is).
+-- The scaled form keeps its state as defined (`scaled-is`): at the start (start-is), through an entry (enter-is),
+-- through an iteration (iterate-is); and it swaps with the plain form (swapping-is).
 --
--- An iteration multiplies by scalars ρ and ξ. Its lines hold for any that make a new factor a′, that is aρ = a′γ and bξ = a′δ; only the proofs
--- of such equations tell δ = 0 from δ ≠ 0, and a swap from a hold.
+-- An iteration multiplies by scalars ρ and ξ. Its lines hold for any that make a new factor a′, that is aρ = a′γ and
+-- bξ = a′δ; only the proofs of such equations tell δ = 0 from δ ≠ 0, and a swap from a hold.
 use Prim.Native.Nat.{ℕ, suc, _+_}
 use mathlib.Core.Path.{_≡_, refl, sym, ap, ap₂, _∙_}
 use mathlib.Core.Bool.{Bool, true, false, cond}
 use mathlib.Core.Logic.{_≢_}
 use native.Mathlib.Numerals.{add-one}
 use lib.IntN.{ℤ, pos}
-use Rattle.field.specs.Field.{F, 𝟎, 𝟏, _⊙_, inv, isZero, ⊙-assoc, ⊙-comm, ⊙-one, one-⊙, ⊙-zero, ⊙-ring, one≢zero, inv-mul, ⊙-nonzero}
-use Rattle.field.specs.Field.{isZero-yes, isZero-no, isZero-true, isZero-false}
-use Rattle.series.specs.Series.{Series, O, _⊞_, _⊠_, K, Z, tail, tail-K-⊠, K-⊠-at, O-at, K-zero, ⊠-zero, zero-⊠, ⊠-left-comm, ⊠-ring}
+use Rattle.field.specs.Field.{F, 𝟎, 𝟏, _⊙_, inv, isZero, ⊙-assoc, ⊙-comm, ⊙-one, one-⊙, ⊙-zero, ⊙-ring, one≢zero}
+use Rattle.field.specs.Field.{inv-mul, ⊙-nonzero, isZero-yes, isZero-no, isZero-true, isZero-false}
+use Rattle.series.specs.Series.{Series, O, _⊞_, _⊠_, K, Z, tail, tail-K-⊠, K-⊠-at, O-at, K-zero}
+use Rattle.series.specs.Series.{⊠-zero, zero-⊠, ⊠-left-comm, ⊠-ring}
 use Rattle.key_equation.specs.Shared.{ahead, swaps, or-one}
 use Rattle.key_equation.specs.Plain as Plain
 use Rattle.key_equation.specs.Scaled as Scaled
 use Rattle.key_equation.specs.Run.{Factors, next-factors}
 use Rattle.key_equation.specs.Claim.{scaled-is}
-use Rattle.key_equation.specs.Ahead.{Agree, δ-ahead, ahead-next, ahead-next-Z, ahead-update, ahead-enter, ahead-zero}
-use Rattle.key_equation.specs.Ahead.{swaps-nonzero, or-one-nonzero, or-one-zero}
+use Rattle.key_equation.specs.Ahead.{Agree, δ-ahead, ahead-next, ahead-next-Z, ahead-update, ahead-enter}
+use Rattle.key_equation.specs.Ahead.{ahead-zero, swaps-nonzero, or-one-nonzero, or-one-zero}
 
 pub start-is : (S : Series) → ((i : ℕ) → S i ≡ 𝟎) → Scaled.start ≡ scaled-is 0 S Plain.start (record { a = 𝟏; b = 𝟏 })
 start-is S z = held ∙ (λ i. Scaled.holding 0 S (poly i) (poly i) (sym (⊙-one 𝟏) i) (pos 0) (none i) (none i))
@@ -112,11 +113,13 @@ module _ (r : ℕ) (S : Series) where
     line-Z f = ap (λ t. K (g ⊙ x) ⊠ t) (⊠-left-comm Z _ f) ∙ line (Z ⊠ f)
 
     Θ-swap : (f : Series)
-        → K x ⊠ tail (K c ⊠ ahead r f S) ⊞ Scaled.unless (S (r + 1)) (K (g ⊙ x) ⊠ (K (c ⊙ p) ⊠ f)) ≡ K e ⊠ ahead (r + 1) f S
+        → K x ⊠ tail (K c ⊠ ahead r f S) ⊞ Scaled.unless (S (r + 1)) (K (g ⊙ x) ⊠ (K (c ⊙ p) ⊠ f))
+        ≡ K e ⊠ ahead (r + 1) f S
     Θ-swap f = rw (line, unless-is, tail-K-⊠, scale x c e (tail (ahead r f S)) h, add-one, ahead-next) (simp ⊠-ring)
 
     Θ-hold : (f : Series)
-        → K x ⊠ (K c ⊠ ahead r f S) ⊞ Scaled.unless (S (r + 1)) (K (g ⊙ x) ⊠ (Z ⊠ (K (c ⊙ p) ⊠ f))) ≡ K e ⊠ ahead (r + 1) (Z ⊠ f) S
+        → K x ⊠ (K c ⊠ ahead r f S) ⊞ Scaled.unless (S (r + 1)) (K (g ⊙ x) ⊠ (Z ⊠ (K (c ⊙ p) ⊠ f)))
+        ≡ K e ⊠ ahead (r + 1) (Z ⊠ f) S
     Θ-hold f = rw (line-Z, unless-is, scale x c e (ahead r f S) h, add-one, ahead-next-Z) (simp ⊠-ring)
 
   module _ (m : Plain.State) (δ a b a′ ρ ξ : F) (hρ : a ⊙ ρ ≡ a′ ⊙ m .γ) (hξ : b ⊙ ξ ≡ a′ ⊙ δ) where
@@ -127,7 +130,15 @@ module _ (r : ℕ) (S : Series) where
         ⊞ Scaled.unless (S (r + 1)) (K (g ⊙ ρ) ⊠ (K (a ⊙ p) ⊠ m .Λ) ⊞ K (g ⊙ ξ) ⊠ (Z ⊠ (K (b ⊙ p) ⊠ m .B)))
         ≡ K a′ ⊠ ahead (r + 1) (Plain.update δ m) S
     Δ-is =
-        rw (Λ-is, unless-is, tail-K-⊠, scale ρ a _ (tail (ahead r (m .Λ) S)) hρ, scale ξ b _ (ahead r (m .B) S) hξ, add-one, ahead-update)
+        rw (
+          Λ-is,
+          unless-is,
+          tail-K-⊠,
+          scale ρ a _ (tail (ahead r (m .Λ) S)) hρ,
+          scale ξ b _ (ahead r (m .B) S) hξ,
+          add-one,
+          ahead-update,
+        )
         (simp ⊠-ring)
 
 -- ---- an iteration
@@ -184,7 +195,8 @@ module _ (r : ℕ) (S : Series) (m : Plain.State) (x : Factors) (a≢0 : x .a �
       k
       (Δ-is r S m δ (x .a) (x .b) a′ (w .ρ) (w .ξ) ρ-is ξ-is i)
       (Θ-is i))
-      ∙ ap (λ n. scaled-is n S (record { Λ = Plain.update δ m; B = B₁; γ = γ₁; k = k }) (record { a = a′; b = b′ })) (add-one r)
+      ∙ ap (λ n. scaled-is n S (record { Λ = Plain.update δ m; B = B₁; γ = γ₁; k = k }) (record { a = a′; b = b′ }))
+      (add-one r)
 
   module _ (δ≢0 : δ ≢ 𝟎) where
     abbrev b-swap : F
@@ -197,7 +209,8 @@ module _ (r : ℕ) (S : Series) (m : Plain.State) (x : Factors) (a≢0 : x .a �
     γ-swap = ap (λ t. Scaled.rho (x .b ⊙ m .γ) d ⊙ t) d-is ∙ scale-⊙ _ _ _ δ ρ-swap
 
     swap-is : Scaled.swap r S w ≡ scaled-is (suc r) S (Plain.swap δ m) (next-factors δ (m .γ) true x)
-    swap-is = stepped-is _ _ (m .Λ) _ δ b-swap _ (line r S (w .ρ) (x .a) _ ρ-swap (m .Λ)) γ-swap (Θ-swap r S (w .ρ) (x .a) _ ρ-swap (m .Λ))
+    swap-is = stepped-is _ _ (m .Λ) _ δ b-swap _ (line r S (w .ρ) (x .a) _ ρ-swap (m .Λ)) γ-swap
+        (Θ-swap r S (w .ρ) (x .a) _ ρ-swap (m .Λ))
 
   abbrev b-hold : F
   b-hold = next-factors δ (m .γ) false x .b

@@ -1,7 +1,8 @@
--- What the iteration finds: after r iterations over S, the shortest solution of the key equation, and how every other one comes from it.
+-- What the iteration finds: after r iterations over S, the shortest solution of the key equation, and how every other
+-- one comes from it.
 --
---   Invariant S r m      what holds of the plain state m after r iterations. L is the length. P and Q stand to Λ and zB as numerators:
---                        Λ·S and P agree below r, and so do zB·S and Q
+--   Invariant S r m      what holds of the plain state m after r iterations. L is the length. P and Q stand to Λ and zB
+--                        as numerators: Λ·S and P agree below r, and so do zB·S and Q
 --   length S r           L of the measure
 --   c S r                γ·Λ_0 of the measure
 --   Solution S r σ ω e   σ and ω solve the key equation of S below r with length e
@@ -24,12 +25,14 @@ use Rattle.key_equation.specs.Shared.{swaps, k-swap, k-hold, len}
 use Rattle.key_equation.specs.Plain as Plain
 use Rattle.key_equation.specs.Run.{measure}
 use Rattle.key_equation.specs.Ahead.{δ-convolution}
-use Rattle.key_equation.specs.Length.{k-of, k-of-start, k-of-hold, k-of-swap, swaps-of-yes, swaps-of-zero, swaps-of-long, len-of}
+use Rattle.key_equation.specs.Length.{k-of, k-of-start, k-of-hold, k-of-swap, swaps-of-yes}
+use Rattle.key_equation.specs.Length.{swaps-of-zero, swaps-of-long, len-of}
 
 -- ---- the invariant
 
--- The proof plan's invariant (its section 3). Statement 1 is key, aux, E0, γ≢0 and Λ0≢0, with the agreement below r as an equation: D and E are
--- what stands from r on. Statement 2 is short and the degrees. Statement 3, divided by z^r, is unit.
+-- The proof plan's invariant (its section 3). Statement 1 is key, aux, E0, γ≢0 and Λ0≢0, with the agreement below r
+-- as an equation: D and E are what stands from r on. Statement 2 is short and the degrees. Statement 3, divided by
+-- z^r, is unit.
 pub record Invariant (S : Series) (r : ℕ) (m : Plain.State) : Type 0 where
   pub L : ℕ
   pub P : Series
@@ -83,7 +86,8 @@ module _ (S : Series) (r : ℕ) (m : Plain.State) (v : Invariant S r m) where
 
   -- the discrepancy is the first coefficient ahead
   D0 : v .D 0 ≡ d
-  D0 = sym (δ-convolution r S m ∙ (simp (⊞-at, v .below-P r (v .short), ⊕-zero) at (ap (λ f. f r) (v .key))) ∙ zpow-at0 r (v .D))
+  D0 = sym (δ-convolution r S m
+      ∙ (simp (⊞-at, v .below-P r (v .short), ⊕-zero) at (ap (λ f. f r) (v .key))) ∙ zpow-at0 r (v .D))
 
   D′ : Series
   D′ = tail (K (m .γ) ⊠ v .D ⊞ K d ⊠ v .E)
@@ -114,7 +118,8 @@ module _ (S : Series) (r : ℕ) (m : Plain.State) (v : Invariant S r m) where
   unit-swap = rw Λ′0 (⊞-lc (λ i. K d ⊠ v .unit i ⊞ m .Λ ⊠ Z-D′ i) (simp zpow-ring))
 
   below-sum : (j k n : ℕ) (f g : Series) → below j f → below k g → j ≤ n → k ≤ n → below n (K (m .γ) ⊠ f ⊞ K d ⊠ g)
-  below-sum j k n f g p q h l = below-⊞ n _ _ (below-K-⊠ n _ f (below-weaken j n f p h)) (below-K-⊠ n _ g (below-weaken k n g q l))
+  below-sum j k n f g p q h l =
+      below-⊞ n _ _ (below-K-⊠ n _ f (below-weaken j n f p h)) (below-K-⊠ n _ g (below-weaken k n g q l))
 
   -- at a hold the two new terms have to keep the degrees: d = 0, or 2L > r
   at-hold : below (suc (v .L)) (K d ⊠ (Z ⊠ m .B)) → below (v .L) (K d ⊠ v .Q) → Invariant S (suc r) (Plain.hold d m)
@@ -161,13 +166,15 @@ module _ (S : Series) (r : ℕ) (m : Plain.State) (v : Invariant S r m) where
 
   at-iterate : Invariant S (suc r) (Plain.iterate r S m)
   unfolding Plain.iterate
-  at-iterate = subst (λ k. Invariant S (suc r) (chosen (swaps d k))) (sym (v .k-is)) (go (d ≟ 𝟎) (decLe (v .L + v .L) r))
+  at-iterate =
+      subst (λ k. Invariant S (suc r) (chosen (swaps d k))) (sym (v .k-is)) (go (d ≟ 𝟎) (decLe (v .L + v .L) r))
     where
       chosen : Bool → Plain.State
       chosen b = cond b (Plain.swap d m) (Plain.hold d m)
 
       go : Dec (d ≡ 𝟎) → Dec (v .L + v .L ≤ r) → Invariant S (suc r) (chosen (swaps d (k-of r (v .L))))
-      go (yes p) l = rw (swaps-of-zero d r (v .L) p) (at-hold (λ i h. simp (K-⊠-at, p, zero-⊙)) (λ i h. simp (K-⊠-at, p, zero-⊙)))
+      go (yes p) l =
+          rw (swaps-of-zero d r (v .L) p) (at-hold (λ i h. simp (K-⊠-at, p, zero-⊙)) (λ i h. simp (K-⊠-at, p, zero-⊙)))
       go (no p) (yes l) = rw (swaps-of-yes d r (v .L) p l) (at-swap p l)
       go (no p) (no l) = rw (swaps-of-long d r (v .L) (omega arith)) (at-hold
           (below-weaken _ _ _ (below-K-⊠ _ _ _ (v .below-B)) (omega arith))
@@ -280,7 +287,9 @@ module _ (S : Series) (r : ℕ) where
       σ-multiple = ⊞-lc (λ i. σ-is i ⊞ Z ⊠ m .B ⊠ a-none i) (simp zpow-ring)
 
       ω-multiple : K (c S r) ⊠ ω ≡ v .P ⊠ b
-      ω-multiple = zpow-cancel r _ _ (⊞-lc (λ i. v .P ⊠ b-is i ⊞ v .Q ⊠ a-is i ⊞ v .Q ⊠ zpow r ⊠ a-none i ⊞ ω ⊠ det i) (simp zpow-ring))
+      ω-multiple = zpow-cancel r _ _
+          (⊞-lc (λ i. v .P ⊠ b-is i ⊞ v .Q ⊠ a-is i ⊞ v .Q ⊠ zpow r ⊠ a-none i ⊞ ω ⊠ det i) (simp zpow-ring))
 
-      pub unique : (b : Series) × below (suc (e - length S r)) b × (K (c S r) ⊠ σ ≡ m .Λ ⊠ b) × (K (c S r) ⊠ ω ≡ v .P ⊠ b)
+      pub unique : (b : Series) × below (suc (e - length S r)) b × (K (c S r) ⊠ σ ≡ m .Λ ⊠ b)
+          × (K (c S r) ⊠ ω ≡ v .P ⊠ b)
       unique = (b, λ i h. below-b i (omega (arith, v .short, shortest)), σ-multiple, ω-multiple)

@@ -1,11 +1,13 @@
 -- Runs in any form: one induction over the events of every list of rounds.
 --
---   want r S m x       what a form's state is to be after r iterations: S the syndromes so far, m the measure, x the factors
---   Keeps f want       form f keeps it: at the start, through an entry, through an iteration; and it swaps with the plain form
+--   want r S m x       what a form's state is to be after r iterations: S the syndromes so far, m the measure, x
+--                      the factors
+--   Keeps f want       form f keeps it: at the start, through an entry, through an iteration; and it swaps with the
+--                      plain form
 --   wanted J known r   where a run in such a form is to be, J being the joined syndromes and `known` those so far
 --
--- Proved: how many iterations a run has had (run-r); where every run is, as one equation (run-is); how far it has come (iterations-le), and what
--- its end is (end-iterations, end-entered).
+-- Proved: how many iterations a run has had (run-r); where every run is, as one equation (run-is); how far it has come
+-- (iterations-le), and what its end is (end-iterations, end-entered).
 use Prim.Native.Nat.{ℕ, zero, suc, _+_, _≤_}
 use mathlib.Core.Path.{_≡_, refl, sym, ap, _∙_}
 use mathlib.Core.Logic.{_≢_}
@@ -18,8 +20,9 @@ use Rattle.field.specs.Field.{F, 𝟎, 𝟏}
 use Rattle.series.specs.Series.{Series}
 use Rattle.series.specs.Word.{entry, entry-is, entry-past}
 use Rattle.key_equation.specs.Plain as Plain
-use Rattle.key_equation.specs.Run.{Form, Factors, At, Event, entering, iteration, joined, events, outset, note, happen, after, run}
-use Rattle.key_equation.specs.Run.{count, entered, iterations, so-far, measure, measure-swapped, next-factors, factors}
+use Rattle.key_equation.specs.Run.{Form, Factors, At, Event, entering, iteration, joined, events, outset, note}
+use Rattle.key_equation.specs.Run.{happen, after, run, count, entered, iterations, so-far, measure}
+use Rattle.key_equation.specs.Run.{measure-swapped, next-factors, factors}
 use Rattle.key_equation.specs.Ahead.{Agree}
 use Rattle.key_equation.specs.Measure.{measure-γ, factors-nonzero, δ-agree}
 
@@ -36,9 +39,11 @@ run-r f rounds k = after-r f (take k (events rounds)) (outset f) ∙ zero-add _
 
 pub record Keeps (f : Form) (want : ℕ → Series → Plain.State → Factors → f .State) : Type 0 where
   pub starts : (S : Series) → ((i : ℕ) → S i ≡ 𝟎) → f .start ≡ want 0 S Plain.start (record { a = 𝟏; b = 𝟏 })
-  pub enters : (u : ℕ) (S S′ : Series) (m : Plain.State) (x : Factors) → Agree u S S′ → S u ≡ 𝟎 → f .enter u S′ (want u S m x) ≡ want u S′ m x
+  pub enters : (u : ℕ) (S S′ : Series) (m : Plain.State) (x : Factors) → Agree u S S′ → S u ≡ 𝟎
+      → f .enter u S′ (want u S m x) ≡ want u S′ m x
   pub iterates : (r : ℕ) (S : Series) (m : Plain.State) (x : Factors) → x .a ≢ 𝟎 → m .γ ≢ 𝟎
-      → f .iterate r S (want r S m x) ≡ want (suc r) S (Plain.iterate r S m) (next-factors (Plain.δ r S m) (m .γ) (Plain.swapping r S m) x)
+      → f .iterate r S (want r S m x)
+      ≡ want (suc r) S (Plain.iterate r S m) (next-factors (Plain.δ r S m) (m .γ) (Plain.swapping r S m) x)
   pub swaps : (r : ℕ) (S : Series) (m : Plain.State) (x : Factors) → x .a ≢ 𝟎 → m .γ ≢ 𝟎
       → f .swapping r S (want r S m x) ≡ Plain.swapping r S m
 
@@ -57,9 +62,15 @@ module _ (f : Form) (want : ℕ → Series → Plain.State → Factors → f .St
   module _ (keeps : Keeps f want) (J : List F) where
     at-start : outset f ≡ wanted J [] 0
     unfolding measure factors measure-swapped
-    at-start = λ i. record { known = []; r = 0; state = keeps .starts (entry []) (λ p. entry-past [] p (omega arith)) i; swapped = outset f .swapped }
+    at-start = λ i. record {
+      known = [];
+      r = 0;
+      state = keeps .starts (entry []) (λ p. entry-past [] p (omega arith)) i;
+      swapped = outset f .swapped;
+    }
 
-    through-entry : (known round : List F) (r : ℕ) → length known ≡ r → happen f (entering round) (wanted J known r) ≡ wanted J (known ++ round) r
+    through-entry : (known round : List F) (r : ℕ) → length known ≡ r
+        → happen f (entering round) (wanted J known r) ≡ wanted J (known ++ round) r
     through-entry known round r e = λ i. record {
       known = known ++ round;
       r = r;
@@ -68,7 +79,8 @@ module _ (f : Form) (want : ℕ → Series → Plain.State → Factors → f .St
     }
       where
         state-is : f .enter r (entry (known ++ round)) (wanted J known r .state) ≡ wanted J (known ++ round) r .state
-        state-is = keeps .enters r _ _ _ _ (λ i l. entry-append known round i (omega arith)) (entry-past known r (omega arith))
+        state-is =
+            keeps .enters r _ _ _ _ (λ i l. entry-append known round i (omega arith)) (entry-past known r (omega arith))
 
     through-iteration : (known : List F) (r : ℕ) → Agree (suc r) (entry known) (entry J)
         → happen f iteration (wanted J known r) ≡ wanted J known (suc r)
@@ -80,25 +92,31 @@ module _ (f : Form) (want : ℕ → Series → Plain.State → Factors → f .St
             keeps .iterates r _ _ _ (factors-nonzero (entry J) r .0) (measure-γ (entry J) r)
             ∙ rw (δ-agree r (entry known) (entry J) (measure (entry J) r) h) refl
 
-        swapped-is : note (f .swapping r (entry known) (wanted J known r .state)) r (measure-swapped (entry J) r) ≡ measure-swapped (entry J) (suc r)
+        swapped-is : note (f .swapping r (entry known) (wanted J known r .state)) r (measure-swapped (entry J) r)
+            ≡ measure-swapped (entry J) (suc r)
         swapped-is =
-            ap (λ b. note b r (measure-swapped (entry J) r)) (keeps .swaps r _ _ _ (factors-nonzero (entry J) r .0) (measure-γ (entry J) r))
+            ap (λ b. note b r (measure-swapped (entry J) r))
+            (keeps .swaps r _ _ _ (factors-nonzero (entry J) r .0) (measure-γ (entry J) r))
             ∙ rw (δ-agree r (entry known) (entry J) (measure (entry J) r) h) refl
 
     -- n iterations are left of the round, then come the rounds; k events happen
-    walk : (k n : ℕ) (rounds : List (List F)) (known : List F) (r : ℕ) → length known ≡ r + n → known ++ joined rounds ≡ J
-        → let es = take k (replicate n iteration ++ events rounds) in after f es (wanted J known r) ≡ wanted J (known ++ entered es) (r + count es)
+    walk : (k n : ℕ) (rounds : List (List F)) (known : List F) (r : ℕ) → length known ≡ r + n
+        → known ++ joined rounds ≡ J
+        → let es = take k (replicate n iteration ++ events rounds) in
+        after f es (wanted J known r) ≡ wanted J (known ++ entered es) (r + count es)
     unfolding after events joined entered count
     walk zero n rounds known r e j = rw (append-nil, add-zero) refl
     walk (suc k) zero [] known r e j = rw (append-nil, add-zero) refl
     walk (suc k) zero (round ∷ rest) known r e j =
         let es = take k (replicate (length round) iteration ++ events rest) in
         ap (after f es) (through-entry known round r (omega arith))
-        ∙ walk k (length round) rest (known ++ round) r (length-append known round ∙ omega arith) (append-assoc known round (joined rest) ∙ j)
+        ∙ walk k (length round) rest (known ++ round) r (length-append known round ∙ omega arith)
+        (append-assoc known round (joined rest) ∙ j)
         ∙ ap (λ l. wanted J l (r + count es)) (append-assoc known round (entered es))
     walk (suc k) (suc n) rounds known r e j =
         let es = take k (replicate n iteration ++ events rounds) in
-        ap (after f es) (through-iteration known r (λ i l. entry-append known (joined rounds) i (omega arith) ∙ ap (λ t. entry t i) j))
+        ap (after f es)
+        (through-iteration known r (λ i l. entry-append known (joined rounds) i (omega arith) ∙ ap (λ t. entry t i) j))
         ∙ walk k n rounds known (suc r) (omega arith) j
         ∙ ap (wanted J (known ++ entered es)) (suc-add r (count es) ∙ sym (add-suc r (count es)))
 

@@ -6,7 +6,8 @@
 --   ok-line i r c          block i was read, r being the last stage and c the number of changed symbols
 --   refused-line i q       block i was refused by the number q
 --   card-line q            the card was refused by the number q
---   Printed x l n m        the text x was printed into an array that was l: it has n bytes, and the array is m now, with the bytes behind the text as they were
+--   Printed x l n m        the text x was printed into an array that was l: it has n bytes, and the array is m now,
+--                          with the bytes behind the text as they were
 use Prim.Native.Nat.{ℕ, zero, suc, _+_, _/_, _%_}
 use Prim.Native.Char.{code}
 use Prim.Native.String.{String, [] as none, _∷_ as _and_}

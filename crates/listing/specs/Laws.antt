@@ -1,10 +1,12 @@
 -- Texts that are written one after the other, and the digits of a number.
 --
---   Put a x l e m    the text x was written to the array l from a on: it ends at e, and the array is m now, with the bytes behind the text as they were
+--   Put a x l e m    the text x was written to the array l from a on: it ends at e, and the array is m now, with the
+--                    bytes behind the text as they were
 --
--- Proved: what two texts come to that are written one after the other (put-then, put-next), what a store (put-one) and a copy (put-all) come to, what a line is that
--- was written from 0 on (put-line); the digits of a number (decimal-one, decimal-more), and that a number below 2^16 has at most five (decimal-short); what is
--- written digit by digit (put-low, put-high).
+-- Proved: what two texts come to that are written one after the other (put-then, put-next), what a store (put-one) and
+-- a copy (put-all) come to, what a line is that was written from 0 on (put-line); the digits of a number (decimal-one,
+-- decimal-more), and that a number below 2^16 has at most five (decimal-short); what is written digit by digit
+-- (put-low, put-high).
 use Prim.Native.Nat.{ℕ, zero, suc, _+_, _*_, _/_, _%_, _≤_, _<_}
 use mathlib.Core.Path.{_≡_, refl, sym, ap, ap₂, _∙_}
 use mathlib.Core.Logic.{by-cases}
@@ -37,7 +39,8 @@ put-then {a = a} {e = e} {b = b} {x = x} {y = y} {l = l} {m = m} {k = k} p q = r
       ∙ ap (λ (n : ℕ). drop n l) (sym (q .end));
 }
 
-pub put-next : {a e b : ℕ} {x l m k : List ℕ} (y z : List ℕ) → Put a x l e m → Put e (y ++ z) m b k → Put a ((x ++ y) ++ z) l b k
+pub put-next : {a e b : ℕ} {x l m k : List ℕ} (y z : List ℕ) → Put a x l e m → Put e (y ++ z) m b k
+    → Put a ((x ++ y) ++ z) l b k
 put-next {x = x} y z p q = rw (append-assoc x y z) (put-then p q)
 
 pub put-one : (a d : ℕ) (l : List ℕ) → a < length l → Put a (d ∷ []) l (a + 1) (set l a d)
@@ -48,16 +51,19 @@ put-one a d l h = record {
   rest = drop-set-lt (a + 1) l a d (omega arith);
 }
 
-pub put-all : (a : ℕ) (x l m : List ℕ) → a + length x ≤ length l → m ≡ paste l a x (length x) → Put a x l (a + length x) m
+pub put-all : (a : ℕ) (x l m : List ℕ) → a + length x ≤ length l → m ≡ paste l a x (length x)
+    → Put a x l (a + length x) m
 put-all a x l m h e = record {
   end = refl;
   long = ap length e ∙ length-paste l a x (length x) h (omega arith);
-  says = ap (take (a + length x)) e ∙ take-paste l a x (length x) (omega arith) (omega arith) ∙ ap (λ (w : List ℕ). take a l ++ w) (take-length x);
+  says = ap (take (a + length x)) e ∙ take-paste l a x (length x) (omega arith) (omega arith)
+      ∙ ap (λ (w : List ℕ). take a l ++ w) (take-length x);
   rest = ap (drop (a + length x)) e ∙ drop-paste l a x (length x) (omega arith) (omega arith);
 }
 
 pub put-line : {x l m : List ℕ} {e : ℕ} → Put 0 x l e m → Printed x l e m
-put-line {m = m} {e = e} p = record { size = omega (arith, p .end); says = sym (take-append-drop e m) ∙ ap₂ _++_ (p .says) (p .rest) }
+put-line {m = m} {e = e} p =
+    record { size = omega (arith, p .end); says = sym (take-append-drop e m) ∙ ap₂ _++_ (p .says) (p .rest) }
 
 -- ---- digits
 
@@ -80,7 +86,8 @@ digits-same (suc k) (suc l) n h g =
     (λ s. digits-low (suc k) n s ∙ sym (digits-low (suc l) n s))
     (λ s.
     digits-high k n (omega arith)
-    ∙ ap (λ (w : List ℕ). w ++ (glyph (n % 10) ∷ [])) (digits-same k l (n / 10) (omega (arith, tenth n)) (omega (arith, tenth n)))
+    ∙ ap (λ (w : List ℕ). w ++ (glyph (n % 10) ∷ []))
+    (digits-same k l (n / 10) (omega (arith, tenth n)) (omega (arith, tenth n)))
     ∙ sym (digits-high l n (omega arith)))
 
 pub decimal-one : (n : ℕ) → n < 10 → decimal n ≡ glyph n ∷ []
@@ -90,7 +97,8 @@ pub decimal-more : (n : ℕ) → 10 ≤ n → decimal n ≡ decimal (n / 10) ++ 
 decimal-more zero h = absurd (omega arith)
 decimal-more (suc n) h =
     digits-high n (suc n) h
-    ∙ ap (λ (w : List ℕ). w ++ (glyph (suc n % 10) ∷ [])) (digits-same n (suc n / 10) (suc n / 10) (omega (arith, tenth (suc n))) (omega arith))
+    ∙ ap (λ (w : List ℕ). w ++ (glyph (suc n % 10) ∷ []))
+    (digits-same n (suc n / 10) (suc n / 10) (omega (arith, tenth (suc n))) (omega arith))
 
 pub decimal-length : (n : ℕ) → 10 ≤ n → length (decimal n) ≡ length (decimal (n / 10)) + 1
 decimal-length n h = ap length (decimal-more n h) ∙ length-append (decimal (n / 10)) (glyph (n % 10) ∷ [])
@@ -107,12 +115,14 @@ longer b k h n l =
 
 pub decimal-short : (n : ℕ) → n < 65536 → length (decimal n) ≤ 5
 decimal-short n h =
-    longer 10000 4 (longer 1000 3 (longer 100 2 (longer 10 1 (λ m l. omega (arith, ap length (decimal-one m l)))))) n (omega arith)
+    longer 10000 4
+    (longer 1000 3 (longer 100 2 (longer 10 1 (λ m l. omega (arith, ap length (decimal-one m l)))))) n (omega arith)
 
 -- ---- numbers that are written
 
 pub put-low : {a n e : ℕ} {l m : List ℕ} → n < 10 → Put a (glyph n ∷ []) l e m → Put a (decimal n) l e m
 put-low {n = n} h p = rw (decimal-one n h) p
 
-pub put-high : {a n e b : ℕ} {l m k : List ℕ} → 10 ≤ n → Put a (decimal (n / 10)) l e m → Put e (glyph (n % 10) ∷ []) m b k → Put a (decimal n) l b k
+pub put-high : {a n e b : ℕ} {l m k : List ℕ} → 10 ≤ n → Put a (decimal (n / 10)) l e m
+    → Put e (glyph (n % 10) ∷ []) m b k → Put a (decimal n) l b k
 put-high {n = n} h p q = rw (decimal-more n h) (put-then p q)

@@ -1,8 +1,10 @@
-// The lines of the printed list, each written into the first bytes of an array that is lent. What the promises speak of stands in specs/Definition.antt.
+// The lines of the printed list, each written into the first bytes of an array that is lent. What the promises speak of
+// stands in specs/Definition.antt.
 ghost use Prim.Native.Nat.{_+_, _≤_, _<_};
 ghost use mathlib.Core.List.{[], _∷_, _++_};
 ghost use lib.ListN.{length};
-ghost use Rattle.listing.specs.Definition.{glyph, decimal, blocks-line, ok-line, refused-line, card-line, Printed};
+ghost use Rattle.listing.specs.Definition.{glyph, decimal, blocks-line, ok-line};
+ghost use Rattle.listing.specs.Definition.{refused-line, card-line, Printed};
 ghost use Rattle.listing.specs.Laws.{Put};
 
 // Room for a line, the longest of which has 21 bytes.

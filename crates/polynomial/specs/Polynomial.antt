@@ -7,7 +7,8 @@
 --
 -- The first two cut what an array cannot hold, so that they have their degree whatever the list is.
 --
--- Proved: a loop over coefficients that are zero goes on by clear-more and ends by below-clear; a product by zero is zero (none-⊠).
+-- Proved: a loop over coefficients that are zero goes on by clear-more and ends by below-clear; a product by zero is
+-- zero (none-⊠).
 use Prim.Native.Nat.{ℕ, _+_, _≤_, _<_}
 use mathlib.Core.Path.{_≡_, sym, ap, ap₂, _∙_}
 use mathlib.Core.Bool.{Bool, true}
@@ -59,7 +60,8 @@ unfolding row
 row-values l h = below-cut-eq 48 (values l) (below-values 48 l h)
 
 pub row-zeros : row (replicate {A = Gf} 48 (record { 0 = 0 })) ≡ O
-row-zeros = row-values _ (length-replicate {A = Gf} 48 (record { 0 = 0 })) ∙ read-zeros val (record { 0 = 0 }) val-zero 48 O ∙ cut-none O
+row-zeros = row-values _ (length-replicate {A = Gf} 48 (record { 0 = 0 }))
+    ∙ read-zeros val (record { 0 = 0 }) val-zero 48 O ∙ cut-none O
 
 -- an array that is filled with f, past the last coefficient of f
 pub poly-filled : {i : ℕ} {f : Series} {l : List Gf} (k : ℕ) → Filled 49 i f l → k ≤ i → below k f → poly l ≡ f
@@ -90,7 +92,8 @@ clear-more l m i any b h e k p q = go (ℕ-discrete k i)
     left = omega (arith, or-add-and any (getD l i (record { 0 = 0 }) .0), and-le-r any (getD l i (record { 0 = 0 }) .0))
 
     right : getD l i (record { 0 = 0 }) .0 ≡ 0
-    right = omega (arith, or-add-and any (getD l i (record { 0 = 0 }) .0), and-le-l any (getD l i (record { 0 = 0 }) .0))
+    right =
+        omega (arith, or-add-and any (getD l i (record { 0 = 0 }) .0), and-le-l any (getD l i (record { 0 = 0 }) .0))
 
     go : Dec (k ≡ i) → poly l k ≡ 𝟎
     go (yes s) = rw s (poly-at l i b ∙ val-is-zero _ right)
@@ -100,5 +103,6 @@ clear-more l m i any b h e k p q = go (ℕ-discrete k i)
 pub cut-add : (a : F) (f g : Series) → below 49 f → f ⊞ K a ⊠ cut 49 g ≡ cut 49 (f ⊞ K a ⊠ g)
 cut-add a f g h = sym (cut-⊞ 49 f _ ∙ ap₂ _⊞_ (below-cut-eq 49 f h) (cut-K-⊠ 49 a g))
 
-pub cut-update : (a b : F) (f g : Series) → below 49 f → K a ⊠ f ⊞ K b ⊠ cut 49 (Z ⊠ g) ≡ cut 49 (K a ⊠ f ⊞ K b ⊠ (Z ⊠ g))
+pub cut-update : (a b : F) (f g : Series) → below 49 f
+    → K a ⊠ f ⊞ K b ⊠ cut 49 (Z ⊠ g) ≡ cut 49 (K a ⊠ f ⊞ K b ⊠ (Z ⊠ g))
 cut-update a b f g h = cut-add b (K a ⊠ f) (Z ⊠ g) (below-K-⊠ 49 a f h)

@@ -2,8 +2,9 @@
 --
 --   reversed r g   the coefficients of g from r down: g r, g (r - 1), .. g 0, then zeros
 --
--- Proved: a loop that writes those of a table from 95 down begins at 48 (reversed-none) and ends at 96 (reversed-all); each coefficient of a product
--- reads a part of them (reversed-part), and the sum of products is the coefficient (below-products, reversed-sum); from 96 on it is zero (product-past).
+-- Proved: a loop that writes those of a table from 95 down begins at 48 (reversed-none) and ends at 96 (reversed-all);
+-- each coefficient of a product reads a part of them (reversed-part), and the sum of products is the coefficient
+-- (below-products, reversed-sum); from 96 on it is zero (product-past).
 use Prim.Native.Nat.{ℕ, suc, _+_, _-_, _≤_, _<_}
 use mathlib.Core.Path.{_≡_, sym, ap, ap₂, _∙_}
 use native.Mathlib.Decide.{decLe}
@@ -30,16 +31,19 @@ reversed-past r g i h = cut-high (suc r) _ i (omega arith)
 
 -- g has 48 coefficients
 pub reversed-none : (g : Series) → below 48 g → bytes (replicate 144 0) ≡ cut 48 (reversed 95 g)
-reversed-none g b = read-zeros of 0 of-zero 144 (reversed 95 g) ∙ sym (cut-unique 48 (reversed 95 g) (cut 0 (reversed 95 g)) low high)
+reversed-none g b = read-zeros of 0 of-zero 144 (reversed 95 g)
+    ∙ sym (cut-unique 48 (reversed 95 g) (cut 0 (reversed 95 g)) low high)
   where
     high : (j : ℕ) → 48 ≤ j → cut 0 (reversed 95 g) j ≡ 𝟎
     high j l = cut-high 0 (reversed 95 g) j (omega arith)
 
     low : (j : ℕ) → j < 48 → reversed 95 g j ≡ cut 0 (reversed 95 g) j
-    low j l = reversed-at 95 g j (omega arith) ∙ b (95 - j) (omega arith) ∙ sym (cut-high 0 (reversed 95 g) j (omega arith))
+    low j l = reversed-at 95 g j (omega arith) ∙ b (95 - j) (omega arith)
+        ∙ sym (cut-high 0 (reversed 95 g) j (omega arith))
 
 pub reversed-all : (i : ℕ) (f g : Series) → i ≡ 96 → f ≡ cut i (reversed 95 g) → f ≡ reversed 95 g
-reversed-all i f g n e = e ∙ ap (λ (k : ℕ). cut k (reversed 95 g)) n ∙ below-cut-eq 96 (reversed 95 g) (λ j l. reversed-past 95 g j (omega arith))
+reversed-all i f g n e = e ∙ ap (λ (k : ℕ). cut k (reversed 95 g)) n
+    ∙ below-cut-eq 96 (reversed 95 g) (λ j l. reversed-past 95 g j (omega arith))
 
 reversed-part : (r : ℕ) (g : Series) (i : ℕ) → r ≤ 95 → reversed 95 g (95 - r + i) ≡ reversed r g i
 reversed-part r g i h = go (decLe i r)
@@ -56,7 +60,8 @@ sum-next i f = rw add-one (sum-suc i f)
 pub below-products : (n : ℕ) (f g : Series) → below n f → below n (λ i. f i ⊙ g i)
 below-products n f g b i h = rw (b i h) (zero-⊙ _)
 
-pub reversed-sum : (r i : ℕ) (f g t p : Series) → i ≡ 49 → r ≤ 95 → below 49 f → t ≡ reversed 95 g → p ≡ (λ j. f j ⊙ t (95 - r + j)) → sum i p ≡ (f ⊠ g) r
+pub reversed-sum : (r i : ℕ) (f g t p : Series)
+    → i ≡ 49 → r ≤ 95 → below 49 f → t ≡ reversed 95 g → p ≡ (λ j. f j ⊙ t (95 - r + j)) → sum i p ≡ (f ⊠ g) r
 reversed-sum r i f g t p n h b e q =
     ap₂ sum n q
     ∙ sum-cong 49 _ u (λ j l. ap (λ (s : F). f j ⊙ s) (ap (λ (h : Series). h (95 - r + j)) e ∙ reversed-part r g j h))

@@ -2,8 +2,8 @@
 --
 --   zero? l   whether the table l is zero
 --
--- Proved, of the answer `holds (zero? l)`: if it is true, the row is zero (zero-row); if it is false, it is not (zero-not). A table whose entries are
--- zero is zero (row-zero).
+-- Proved, of the answer `holds (zero? l)`: if it is true, the row is zero (zero-row); if it is false, it is not
+-- (zero-not). A table whose entries are zero is zero (row-zero).
 use Prim.Native.Nat.{ℕ, _<_}
 use mathlib.Core.Path.{_≡_, sym, ap, _∙_, fun-ext}
 use mathlib.Core.Logic.{_≢_, Dec·of-iff, by-cases}

@@ -45,7 +45,8 @@ accepted b s i p e small =
 -- ---- parts
 
 pub end-in : {p : Profile} {s i : ℕ} → Within p s i → i * p .length + p .length ≤ s
-end-in {p} {s} {i} fits = rw (fits .size) (omega (arith, suc-mul i (p .length), mul-le-mul-right (p .length) (fits .subword)))
+end-in {p} {s} {i} fits =
+    rw (fits .size) (omega (arith, suc-mul i (p .length), mul-le-mul-right (p .length) (fits .subword)))
 
 -- n symbols from the start of a subword on, without its check symbols
 pub part-is : (p : Profile) (i a e : ℕ) (block : List ℕ)

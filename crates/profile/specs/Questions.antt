@@ -5,10 +5,11 @@
 --   put k y q a        a question that is asked if k, and answered by yes if y, put to what was accepted so far
 --   asked c l p        all questions put to the profile p, for the caller c who lends l: the first no stays
 --   read b             what the bytes b of a profile mean
---   admitted c b d o i the profile of the bytes b for the caller c, with an input of d bytes, an output of o bytes and the
---                      subword i, or the first question that says no
+--   admitted c b d o i the profile of the bytes b for the caller c, with an input of d bytes, an output of o bytes and
+--                      the subword i, or the first question that says no
 --   profile-of b       .. by itself: what a card asks
---   writing b d o, reading-of b d o, fetching b d i    .. for a block that is written, that is read, that is fetched from
+--   writing b d o, reading-of b d o, fetching b d i    .. for a block that is written, that is read, that is
+--                                                      fetched from
 use Prim.Native.Nat.{ℕ, zero, suc, _*_}
 use mathlib.Core.Bool.{Bool, true, false, cond, _&&_, _||_}
 use mathlib.Core.List.{List, [], _∷_}
@@ -100,11 +101,19 @@ abbrev pub input-data : Question
 input-data = record { asks = encodes; good = λ l p. eqb (l .input) (data-size p); refusal = InputSize }
 
 abbrev pub input-block : Question
-input-block = record { asks = λ c. decodes c || fetches c; good = λ l p. eqb (l .input) (block-size p); refusal = InputSize }
+input-block = record {
+  asks = λ c. decodes c || fetches c;
+  good = λ l p. eqb (l .input) (block-size p);
+  refusal = InputSize;
+}
 
 -- FORMAT 4.8: the output is a block long
 abbrev pub output-block : Question
-output-block = record { asks = λ c. encodes c || decodes c; good = λ l p. eqb (l .output) (block-size p); refusal = OutputSize }
+output-block = record {
+  asks = λ c. encodes c || decodes c;
+  good = λ l p. eqb (l .output) (block-size p);
+  refusal = OutputSize;
+}
 
 -- FORMAT 4.11: the number of the subword is below m
 abbrev pub subword-below : Question

@@ -3,10 +3,11 @@
 --   passes c l p q     the question q says no to nothing: the caller c does not ask it, or the answer is yes
 --   Passes c l p qs    all of the questions qs do so
 --
--- Proved: who is admitted passes every question, and the profile is the one that was asked about (asked-yes); whoever passes
--- every question is admitted (asked-all); the profile that is admitted for any caller is admitted by itself (admitted-profile).
+-- Proved: who is admitted passes every question, and the profile is the one that was asked about (asked-yes); whoever
+-- passes every question is admitted (asked-all); the profile that is admitted for any caller is admitted by itself
+-- (admitted-profile).
 use Prim.Native.Nat.{ℕ}
-use mathlib.Core.Path.{_≡_, refl, sym, ap, _∙_}
+use mathlib.Core.Path.{_≡_, refl, ap, _∙_}
 use mathlib.Core.Bool.{Bool, true, false, cond, _||_}
 use mathlib.Core.List.{List, [], _∷_}
 use native.Mathlib.Omega.{arith}
@@ -21,8 +22,9 @@ use Rattle.profile.specs.declared.questions.Caller.{Caller}
 use Rattle.profile.specs.declared.questions.Caller.the-variants.{Card}
 use Rattle.profile.specs.declared.questions.Lent.{Lent}
 use Rattle.profile.specs.Definition.{block-size, data-size}
-use Rattle.profile.specs.Questions.{Question, questions, put, put-all, asked, read, admitted, profile-of, lent}
-use Rattle.profile.specs.Questions.{encodes, decodes, fetches, good-subwords, good-nested, good-capabilities, good-length}
+use Rattle.profile.specs.Questions.{Question, questions, put, put-all, asked, read, admitted, profile-of}
+use Rattle.profile.specs.Questions.{lent, encodes, decodes, fetches, good-subwords, good-nested}
+use Rattle.profile.specs.Questions.{good-capabilities, good-length}
 
 abbrev pub passes : Caller → Lent → Profile → Question → Bool
 passes c l p q = cond (q .asks c) (q .good l p) true
@@ -84,4 +86,5 @@ module _ (c : Caller) (b : List ℕ) (d o i : ℕ) (p : Profile) where
   pub admitted-profile : admitted c b d o i ≡ Accepted p → profile-of b ≡ Accepted p
   admitted-profile e =
       let (same, (y1, (y2, (y3, (y4, (y5, _)))))) = asked-yes c (lent b d o i) (read b) p e in
-      asked-all Card (lent b 0 0 0) (read b) (y1, (y2, (y3, (y4, (y5, (refl, (refl, (refl, (refl, tt))))))))) ∙ ap Accepted same
+      asked-all Card (lent b 0 0 0) (read b) (y1, (y2, (y3, (y4, (y5, (refl, (refl, (refl, (refl, tt)))))))))
+      ∙ ap Accepted same

@@ -9,7 +9,7 @@ use Rattle.profile.specs.declared.Parsed.the-variants.{Accepted, Refused
 use Rattle.profile.specs.declared.questions.Caller.{Caller}
 use Rattle.profile.specs.declared.questions.Caller.the-variants.{Encoder, Decoder, Fetch, Card}
 use Rattle.profile.specs.Definition.{number-of, data-size}
-use Rattle.profile.specs.Questions.{Question, questions-of, asked, read, profile-of}
+use Rattle.profile.specs.Questions.{questions-of, asked, read, profile-of}
 
 -- n must be above 2 × tv, which is 4
 short : profile-of (2 ∷ 1 ∷ 4 ∷ 1 ∷ 2 ∷ 0 ∷ 0 ∷ []) ≡ Refused Length

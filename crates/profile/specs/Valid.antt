@@ -2,10 +2,10 @@
 --
 --   Valid p    the profile p passes questions 2 to 5
 --
--- Proved: a profile that is admitted is valid, and the sizes are right (writing-passed, reading-passed; reading-admitted says the
--- converse); capabilities rise, to 24 at most; subwords with a smaller number have more check
--- symbols, each has at least 2 t0, at most 48 and fewer than n; the data size counts the data positions, so data symbols have
--- numbers below it.
+-- Proved: a profile that is admitted is valid, and the sizes are right (writing-passed, reading-passed;
+-- reading-admitted says the converse); capabilities rise, to 24 at most; subwords with a smaller number have more check
+-- symbols, each has at least 2 t0, at most 48 and fewer than n; the data size counts the data positions, so data
+-- symbols have numbers below it.
 use Prim.Native.Nat.{ℕ, zero, suc, _+_, _-_, _*_, _≤_, _<_}
 use mathlib.Core.Path.{_≡_, refl, sym, ap, _∙_, subst}
 use mathlib.Core.Bool.{Bool, true, false, cond, and-eq-true-iff}
@@ -43,7 +43,8 @@ chosen false x y e h = let z : _≡_ {A = ℕ} 0 1 = cc in absurd (omega arith)
 
 -- every part of question 4
 parts : (p : Profile) → good-capabilities p ≡ true
-    → (good-step p 0 ≡ true) × (good-step p 1 ≡ true) × (good-step p 2 ≡ true) × (good-step p 3 ≡ true) × (leb (last p) 24 ≡ true)
+    → (good-step p 0 ≡ true) × (good-step p 1 ≡ true) × (good-step p 2 ≡ true) × (good-step p 3 ≡ true)
+    × (leb (last p) 24 ≡ true)
 parts p good =
     let (s0, g1) = and-eq-true-iff (good-step p 0) _ .0 good in
     let (s1, g2) = and-eq-true-iff (good-step p 1) _ .0 g1 in
@@ -60,13 +61,15 @@ module _ (p : Profile) (v : p .nested ≤ 3) (good : good-capabilities p ≡ tru
   step (suc (suc (suc (suc r)))) h = absurd (omega arith)
 
   second-above : 0 < p .nested → p .t0 < p .t1
-  second-above h = ltb-true (p .t0) (p .t1) (chosen (leb 1 (p .nested)) _ _ (le-leb 1 (p .nested) h) (step 1 (omega arith)))
+  second-above h =
+      ltb-true (p .t0) (p .t1) (chosen (leb 1 (p .nested)) _ _ (le-leb 1 (p .nested) h) (step 1 (omega arith)))
 
   rises : (r : ℕ) → r < p .nested → capability p r ≤ capability p (suc r)
   rises zero h = omega (arith, second-above h)
   rises (suc r) h =
       leb-true (capability p (suc r)) (capability p (suc (suc r)))
-      (chosen (leb (suc (suc r)) (p .nested)) _ _ (le-leb (suc (suc r)) (p .nested) h) (step (suc (suc r)) (omega arith)))
+      (chosen (leb (suc (suc r)) (p .nested)) _ _ (le-leb (suc (suc r)) (p .nested) h)
+      (step (suc (suc r)) (omega arith)))
 
 -- n is a byte
 pub asked-valid : (c : Caller) (l : Lent) (p q : Profile) → asked c l p ≡ Accepted q → p .length ≤ 255 → Valid q
@@ -90,26 +93,36 @@ module _ (b : List ℕ) (d o : ℕ) (p : Profile) where
   pub writing-passed : writing b d o ≡ Accepted p → p .length ≤ 255 → Valid p × (d ≡ data-size p) × (o ≡ block-size p)
   writing-passed e small =
       let (same, (_, (_, (_, (_, (_, (input, (_, (output, _))))))))) = asked-yes Encoder (lent b d o 0) (read b) p e in
-      let valid = asked-valid Encoder (lent b d o 0) (read b) p e (rw (ap (λ q. q .length) same) small) in
-      (valid, eqb-true d (data-size (read b)) input ∙ ap data-size same, eqb-true o (block-size (read b)) output ∙ ap block-size same)
+      let valid = asked-valid Encoder (lent b d o 0) (read b) p e (rw (ap (λ q. q .length) same) small) in (
+        valid,
+        eqb-true d (data-size (read b)) input ∙ ap data-size same,
+        eqb-true o (block-size (read b)) output ∙ ap block-size same,
+      )
 
-  pub reading-passed : reading-of b d o ≡ Accepted p → p .length ≤ 255 → Valid p × (d ≡ block-size p) × (o ≡ block-size p)
+  pub reading-passed : reading-of b d o ≡ Accepted p → p .length ≤ 255
+      → Valid p × (d ≡ block-size p) × (o ≡ block-size p)
   reading-passed e small =
       let (same, (_, (_, (_, (_, (_, (_, (input, (output, _))))))))) = asked-yes Decoder (lent b d o 0) (read b) p e in
-      let valid = asked-valid Decoder (lent b d o 0) (read b) p e (rw (ap (λ q. q .length) same) small) in
-      (valid, eqb-true d (block-size (read b)) input ∙ ap block-size same, eqb-true o (block-size (read b)) output ∙ ap block-size same)
+      let valid = asked-valid Decoder (lent b d o 0) (read b) p e (rw (ap (λ q. q .length) same) small) in (
+        valid,
+        eqb-true d (block-size (read b)) input ∙ ap block-size same,
+        eqb-true o (block-size (read b)) output ∙ ap block-size same,
+      )
 
   -- the sizes are right
   pub reading-admitted : profile-of b ≡ Accepted p → d ≡ block-size p → o ≡ block-size p → reading-of b d o ≡ Accepted p
   reading-admitted e input output =
       let (same, (y1, (y2, (y3, (y4, (y5, _)))))) = asked-yes Card (lent b 0 0 0) (read b) p e in
       let block = ap block-size same in
-      asked-all Decoder (lent b d o 0) (read b)
-      (y1, (y2, (y3, (y4, (y5, (refl, (eq-eqb _ _ (input ∙ sym block), (eq-eqb _ _ (output ∙ sym block), (refl, tt)))))))))
+      asked-all Decoder (lent b d o 0) (read b) (
+        y1,
+        (y2, (y3, (y4, (y5, (refl, (eq-eqb _ _ (input ∙ sym block), (eq-eqb _ _ (output ∙ sym block), (refl, tt)))))))),
+      )
       ∙ ap Accepted same
 
 -- byte 2 of a profile is the length
-pub admitted-valid : (c : Caller) (b : List ℕ) (d o i : ℕ) (q : Profile) → admitted c b d o i ≡ Accepted q → getD b 2 0 ≤ 255
+pub admitted-valid : (c : Caller) (b : List ℕ) (d o i : ℕ) (q : Profile)
+    → admitted c b d o i ≡ Accepted q → getD b 2 0 ≤ 255
     → Valid q
 admitted-valid c b d o i q e small = asked-valid c (lent b d o i) (read b) q e small
 
@@ -138,7 +151,8 @@ module _ (p : Profile) (ok : Valid p) where
   capability-most r h = omega (arith, ok .most, capability-mono r (p .nested) h (omega arith))
 
   pub checks-mono : (l i : ℕ) → l ≤ i → checks p i ≤ checks p l
-  checks-mono l i h = rw (checks-is p i, checks-is p l) (omega (arith, capability-mono (p .nested - i) (p .nested - l) (omega arith) (omega arith)))
+  checks-mono l i h = rw (checks-is p i, checks-is p l)
+      (omega (arith, capability-mono (p .nested - i) (p .nested - l) (omega arith) (omega arith)))
 
   pub checks-least : (i : ℕ) → 2 * p .t0 ≤ checks p i
   checks-least i = rw (checks-is p i) (omega (arith, capability-mono 0 (p .nested - i) (omega arith) (omega arith)))
@@ -147,7 +161,8 @@ module _ (p : Profile) (ok : Valid p) where
   checks-some i = omega (arith, checks-least i, ok .first)
 
   checks-last : (i : ℕ) → checks p i ≤ 2 * last p
-  checks-last i = rw (checks-is p i) (omega (arith, capability-mono (p .nested - i) (p .nested) (omega arith) (omega arith)))
+  checks-last i =
+      rw (checks-is p i) (omega (arith, capability-mono (p .nested - i) (p .nested) (omega arith) (omega arith)))
 
   pub checks-most : (i : ℕ) → checks p i ≤ 48
   checks-most i = omega (arith, checks-last i, ok .most)
@@ -158,23 +173,33 @@ module _ (p : Profile) (ok : Valid p) where
   -- ---- the data size
 
   -- the data of the first i subwords, i at most v
-  start-low : (i : ℕ) → i ≤ p .nested → data-start p i + 2 * capability-sum p (p .nested) ≡ i * p .length + 2 * capability-sum p (p .nested - i)
+  start-low : (i : ℕ) → i ≤ p .nested
+      → data-start p i + 2 * capability-sum p (p .nested) ≡ i * p .length + 2 * capability-sum p (p .nested - i)
   start-low zero h = rw (zero-mul, sub-zero)
   start-low (suc i) h =
       let e : p .nested - i ≡ suc (p .nested - suc i) = omega arith in
-      let ih : data-start p i + 2 * capability-sum p (p .nested) ≡ i * p .length + 2 * capability-sum p (suc (p .nested - suc i)) =
+      let ih : data-start p i + 2 * capability-sum p (p .nested)
+      ≡ i * p .length + 2 * capability-sum p (suc (p .nested - suc i)) =
       start-low i (omega arith) ∙ rw e in
       let c : checks p i ≡ 2 * capability p (suc (p .nested - suc i)) = checks-is p i ∙ rw e in
       omega (arith, ih, c, checks-below i, suc-mul i (p .length))
 
   -- and k subwords more
-  start-high : (k : ℕ) → data-start p (p .nested + k) + 2 * capability-sum p (p .nested) + 2 * (k * p .t0) ≡ (p .nested + k) * p .length
+  start-high : (k : ℕ)
+      → data-start p (p .nested + k) + 2 * capability-sum p (p .nested) + 2 * (k * p .t0) ≡ (p .nested + k) * p .length
   start-high zero =
       let e : p .nested - p .nested ≡ 0 = omega arith in
       rw add-zero (omega (arith, rw e at (start-low (p .nested) (omega arith)), zero-mul (p .t0)))
   start-high (suc k) =
       let c : checks p (p .nested + k) ≡ 2 * p .t0 = checks-high p (p .nested + k) (omega arith) in
-      rw add-suc (omega (arith, start-high k, c, checks-below (p .nested + k), suc-mul (p .nested + k) (p .length), suc-mul k (p .t0)))
+      rw add-suc (omega (
+        arith,
+        start-high k,
+        c,
+        checks-below (p .nested + k),
+        suc-mul (p .nested + k) (p .length),
+        suc-mul k (p .t0),
+      ))
 
   -- the data size counts the data positions
   pub data-size-is : data-start p (p .subwords) ≡ data-size p

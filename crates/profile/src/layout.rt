@@ -1,5 +1,5 @@
-// Sizes and places, from a profile's bytes: of a block and its data, and where the data of a subword start. All are 0 if the
-// profile is refused.
+// Sizes and places, from a profile's bytes: of a block and its data, and where the data of a subword start. All are 0
+// if the profile is refused.
 ghost use mathlib.Core.Path.{_≡_};
 ghost use Rattle.profile.specs.Definition.{block-size as BlockSize, data-size as DataSize};
 ghost use Rattle.profile.specs.Questions.{profile-of};

@@ -5,8 +5,8 @@ pub mod questions;
 
 ghost use Prim.Native.Nat.{_-_, _*_, _<_, _^_};
 ghost use mathlib.Core.Path.{_≡_};
-ghost use Rattle.profile.specs.Definition.{capability as Capability, number-of, answer-number};
-ghost use Rattle.profile.specs.Definition.{checks as Checks, block-size as BlockSize, capability-sum as Sum, data-size as DataSize};
+ghost use Rattle.profile.specs.Definition.{capability as Capability, number-of, answer-number, checks as Checks};
+ghost use Rattle.profile.specs.Definition.{block-size as BlockSize, capability-sum as Sum, data-size as DataSize};
 
 // The most subwords of a block.
 pub const SUBWORDS: usize = 8;

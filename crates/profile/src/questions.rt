@@ -1,12 +1,13 @@
-// The questions that a profile and the buffers lent with it are put: FORMAT 4. `judge` asks them, one line a question, in their order.
-// What they ask, of whom, and what a no gives stands in specs/Questions.antt.
+// The questions that a profile and the buffers lent with it are put: FORMAT 4. `judge` asks them, one line a question,
+// in their order. What they ask, of whom, and what a no gives stands in specs/Questions.antt.
 ghost use mathlib.Core.Path.{_≡_};
 ghost use mathlib.Core.Bool.{cond};
 ghost use lib.Dec.{leb, eqb};
 ghost use lib.ListN.{getD};
 ghost use Rattle.profile.specs.Definition.{last as Last};
-ghost use Rattle.profile.specs.Questions.{put, read as Read, encodes as Encodes, decodes as Decodes, fetches as Fetches};
-ghost use Rattle.profile.specs.Questions.{good-subwords, good-nested, good-capabilities, good-length, asked, admitted};
+ghost use Rattle.profile.specs.Questions.{put, read as Read, encodes as Encodes, decodes as Decodes};
+ghost use Rattle.profile.specs.Questions.{fetches as Fetches, good-subwords, good-nested};
+ghost use Rattle.profile.specs.Questions.{good-capabilities, good-length, asked, admitted};
 use crate::Parsed;
 use crate::Profile;
 use crate::Refusal;
@@ -19,8 +20,8 @@ pub enum Caller {
     Card,
 }
 
-// What a caller lends, as far as a question looks at it: the bytes of the profile, of the input and of the output, and the
-// number of a subword.
+// What a caller lends, as far as a question looks at it: the bytes of the profile, of the input and of the output, and
+// the number of a subword.
 pub struct Lent {
     pub profile: usize,
     pub input: usize,
@@ -196,8 +197,8 @@ fn read(bytes: &[u8]) -> Profile
     }
 }
 
-// The profile of these bytes for a caller who lends an input and an output of so many bytes and names a subword, or the first
-// question that says no.
+// The profile of these bytes for a caller who lends an input and an output of so many bytes and names a subword, or the
+// first question that says no.
 pub fn admit(caller: Caller, profile: &[u8], input: usize, output: usize, subword: usize) -> Parsed
     ensures { λ a. ⌜ a ≡ admitted caller (now (profile .entry)) input output subword ⌝ }
 {

@@ -1,6 +1,7 @@
-// Reads a card from standard input and prints its list: `blocks N`, a line for each block, and `card refused NUMBER` where the
-// card is refused. Every section and every line is judged by the crate `card`; here are only the reads and the writes. A card may
-// be of any size, and is never held whole; its profile is judged, and the tables that its blocks are divided by are made, once.
+// Reads a card from standard input and prints its list: `blocks N`, a line for each block, and `card refused NUMBER`
+// where the card is refused. Every section and every line is judged by the crate `card`; here are only the reads and
+// the writes. A card may be of any size, and is never held whole; its profile is judged, and the tables that its blocks
+// are divided by are made, once.
 ghost use Prim.Native.Nat.{_<_};
 ghost use mathlib.Core.Path.{_≡_};
 ghost use mathlib.Core.Bool.{true, false};

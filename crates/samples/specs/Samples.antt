@@ -5,9 +5,9 @@
 --   samples    the table
 --   proved     every entry's claim holds
 --
--- The encoding of data is defined by a search that is never run: a block that encodes the data is the encoding, and antt computes that it does.
--- A run's polynomials are equal to those of the sample at every coefficient: below n + 1, n being the number of syndromes, antt computes both; from
--- there on both are zero.
+-- The encoding of data is defined by a search that is never run: a block that encodes the data is the encoding, and
+-- antt computes that it does. A run's polynomials are equal to those of the sample at every coefficient: below n + 1, n
+-- being the number of syndromes, antt computes both; from there on both are zero.
 use Prim.Native.Nat.{ℕ, suc}
 use mathlib.Core.Path.{_≡_, ap, _∙_}
 use mathlib.Core.Bool.{Bool, true, xor, _&&_}
@@ -16,7 +16,8 @@ use mathlib.Core.Option.{some}
 use lib.Dec.{T, eqb, eqb→eq}
 use lib.IntN.{ℤ, pos, negsuc}
 use lib.ListN.{length}
-use Rattle.field.specs.Definition.{𝟎, 𝟏, α, _⊕_, _⊙_, of, byte, isOdd, bit, isZero, pow, inv, plus, times, scale, z⁸, horner, modulo, coefficients}
+use Rattle.field.specs.Definition.{𝟎, 𝟏, α, _⊕_, _⊙_, of, byte, isOdd, bit, isZero, pow, inv, plus, times, scale}
+use Rattle.field.specs.Definition.{z⁸, horner, modulo, coefficients}
 use Rattle.field.specs.Test.{all, and-both}
 use Rattle.series.specs.Sum.{sum}
 use Rattle.series.specs.Series.{Series, O, K, Z, _⊞_, _⊠_}
@@ -52,10 +53,12 @@ pub data Sample : Type 0 where
 unfoldable pub Claim : Sample → Type 0
 Claim (product a b c) = byte (of a ⊙ of b) ≡ c
 Claim (written b d s) =
-    (profile-of b ≡ Accepted (read b)) × (length d ≡ data-size (read b)) × (encoding (read b) (map of d) ≡ some (map of s))
+    (profile-of b ≡ Accepted (read b)) × (length d ≡ data-size (read b))
+    × (encoding (read b) (map of d) ≡ some (map of s))
 Claim (plain-run S Λ B γ k) = finish plain (map of S ∷ []) .state ≡ record { Λ = bytes Λ; B = bytes B; γ = of γ; k = k }
 Claim (scaled-run S Λ B γ′) =
-    (finish scaled (map of S ∷ []) .state .Λ ≡ bytes Λ) × (finish scaled (map of S ∷ []) .state .B ≡ bytes B) × (finish scaled (map of S ∷ []) .state .γ′ ≡ of γ′)
+    (finish scaled (map of S ∷ []) .state .Λ ≡ bytes Λ) × (finish scaled (map of S ∷ []) .state .B ≡ bytes B)
+    × (finish scaled (map of S ∷ []) .state .γ′ ≡ of γ′)
 
 -- P1 to P9 are the names that the customer gave them; where γ or k was left open, the model's stands here
 unfoldable pub samples : List Sample
@@ -63,7 +66,8 @@ samples =
     product 2 128 29  -- P1
     ∷ product 2 142 1  -- P2
     ∷ product 3 244 1  -- P3
-    ∷ written (2 ∷ 1 ∷ 5 ∷ 1 ∷ 2 ∷ 0 ∷ 0 ∷ []) (1 ∷ 0 ∷ 0 ∷ 0 ∷ []) (116 ∷ 231 ∷ 216 ∷ 30 ∷ 1 ∷ 0 ∷ 0 ∷ 0 ∷ 0 ∷ 0 ∷ [])  -- P4
+    ∷ written (2 ∷ 1 ∷ 5 ∷ 1 ∷ 2 ∷ 0 ∷ 0 ∷ []) (1 ∷ 0 ∷ 0 ∷ 0 ∷ [])
+    (116 ∷ 231 ∷ 216 ∷ 30 ∷ 1 ∷ 0 ∷ 0 ∷ 0 ∷ 0 ∷ 0 ∷ [])  -- P4
     ∷ written (2 ∷ 1 ∷ 5 ∷ 1 ∷ 2 ∷ 0 ∷ 0 ∷ []) (0 ∷ 1 ∷ 0 ∷ 0 ∷ []) (8 ∷ 6 ∷ 1 ∷ 0 ∷ 0 ∷ 8 ∷ 6 ∷ 1 ∷ 0 ∷ 0 ∷ [])  -- P5
     ∷ plain-run (2 ∷ 4 ∷ []) (2 ∷ 4 ∷ []) (0 ∷ 1 ∷ []) 2 (pos 0)  -- P6
     ∷ scaled-run (2 ∷ 4 ∷ []) (1 ∷ 2 ∷ []) (0 ∷ 1 ∷ []) 2  -- P6
@@ -86,7 +90,8 @@ abbrev n : List ℕ → ℕ
 n S = length (joined (map of S ∷ []))
 
 plain-test : (S Λ B : List ℕ) (γ : ℕ) (k : ℤ) → Plain.State → Bool
-plain-test S Λ B γ k m = same (suc (n S)) (m .Λ) Λ && (same (suc (n S)) (m .B) B && (equal (m .γ) (of γ) && sameℤ (m .k) k))
+plain-test S Λ B γ k m =
+    same (suc (n S)) (m .Λ) Λ && (same (suc (n S)) (m .B) B && (equal (m .γ) (of γ) && sameℤ (m .k) k))
 
 scaled-test : (S Λ B : List ℕ) (γ′ : ℕ) → Plain.State → Factors → Bool
 scaled-test S Λ B γ′ m x =
@@ -95,7 +100,8 @@ scaled-test S Λ B γ′ m x =
 test : Sample → Bool
 test (product a b c) = eqb (byte (of a ⊙ of b)) c
 test (written b d s) =
-    accepted b && (eqb (length d) (data-size (read b)) && (eqb (length s) (block-size (read b)) && encodes (read b) (bytes d) (bytes s)))
+    accepted b && (eqb (length d) (data-size (read b))
+    && (eqb (length s) (block-size (read b)) && encodes (read b) (bytes d) (bytes s)))
 test (plain-run S Λ B γ k) = plain-test S Λ B γ k (measure (J S) (n S))
 test (scaled-run S Λ B γ′) = scaled-test S Λ B γ′ (measure (J S) (n S)) (factors (J S) (n S))
 
@@ -106,8 +112,11 @@ holding (written b d s) t =
     let (t0, t1) = and-both (accepted b) _ t in
     let (t2, t3) = and-both (eqb (length d) (data-size (read b))) _ t1 in
     let (t4, t5) = and-both (eqb (length s) (block-size (read b))) _ t3 in
-    let (e, valid) = accepted-is b t0 in
-    (e, eqb→eq _ _ t2, encoding-bytes (read b) valid d s (eqb→eq _ _ t4) (encodes-is (read b) valid (bytes d) (bytes s) t5))
+    let (e, valid) = accepted-is b t0 in (
+      e,
+      eqb→eq _ _ t2,
+      encoding-bytes (read b) valid d s (eqb→eq _ _ t4) (encodes-is (read b) valid (bytes d) (bytes s) t5),
+    )
 holding (plain-run S Λ B γ k) t =
     let m = measure (J S) (n S) in
     let (t0, t1) = and-both (same (suc (n S)) (m .Λ) Λ) _ t in
@@ -139,7 +148,8 @@ all-holding [] t = tt
 all-holding (s ∷ ss) t = let (t0, t1) = and-both (test s) _ t in (holding s t0, all-holding ss t1)
 
 computed : T (tests samples)
-unfolding samples tests test plain-test scaled-test equal same sameℤ asked passes accepted codeword carries encodes all Array.read entry
+unfolding samples tests test plain-test scaled-test equal same sameℤ asked passes accepted codeword carries
+    encodes all Array.read entry
     subword nested syndrome root value joined measure factors Plain.iterate Plain.δ swaps from-to sum O K Z _⊞_ _⊠_
     𝟎 𝟏 α _⊕_ _⊙_ of byte isOdd bit isZero pow inv plus times scale z⁸ horner modulo coefficients xor
 computed = tt

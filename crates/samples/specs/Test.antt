@@ -4,7 +4,8 @@
 --   same n f l      f is the polynomial with the bytes l, if its coefficients from n on are zero
 --   sameℤ a b       two signed numbers are the same
 --   accepted b      the profile with the bytes b is accepted
---   encodes p d s   the block s encodes the data d: its symbols in the data positions, and each syndrome that the codeword check walks
+--   encodes p d s   the block s encodes the data d: its symbols in the data positions, and each syndrome that the
+--                   codeword check walks
 use Prim.Native.Nat.{ℕ, _+_, _<_}
 use mathlib.Core.Path.{_≡_, refl, sym, ap, _∙_, fun-ext}
 use mathlib.Core.Bool.{Bool, true, false, _&&_}
@@ -94,7 +95,8 @@ unfoldable pub codeword : Profile → Series → Bool
 codeword p s = all (p .subwords) (λ w. all (checks p w) (λ j. equal (syndrome (p .length) (sums p s w) j) 𝟎))
 
 unfoldable pub carries : Profile → Series → Series → Bool
-carries p d s = all (p .subwords) (λ i. all (data-length p i) (λ q. equal (subword (p .length) s i (checks p i + q)) (d (data-start p i + q))))
+carries p d s = all (p .subwords)
+    (λ i. all (data-length p i) (λ q. equal (subword (p .length) s i (checks p i + q)) (d (data-start p i + q))))
 
 unfoldable pub encodes : Profile → Series → Series → Bool
 encodes p d s = codeword p s && carries p d s

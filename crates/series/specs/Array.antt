@@ -2,18 +2,21 @@
 --
 --   values l     an array of `Gf`
 --   bytes l      an array of bytes
---   read m d l   the general form: entries of any type, m gives the value of an entry, d is an entry with the value zero
+--   read m d l   the general form: entries of any type, m gives the value of an entry, d is an entry with the
+--                value zero
 --
 --   Filled n i f l   the array l of n entries holds the first i coefficients of f, then zeros
 --
--- A loop that fills an array with f from the front keeps `Filled`: it begins with filled-none, goes on by filled-more, and ends by filled-all.
+-- A loop that fills an array with f from the front keeps `Filled`: it begins with filled-none, goes on by filled-more,
+-- and ends by filled-all.
 use Prim.Native.Nat.{ℕ, zero, suc, _+_, _≤_, _<_}
 use mathlib.Core.Path.{_≡_, refl, sym, ap, ap₂, _∙_, fun-ext}
 use mathlib.Core.Logic.{_≢_}
 use mathlib.Core.List.{List, [], _∷_, map}
 use native.Mathlib.Decide.{ℕ-discrete}
 use native.Mathlib.Omega.{arith}
-use lib.ListN.{length, getD, set, replicate, length-set, length-map, length-replicate, List·getD-eq-default, List·getD-map}
+use lib.ListN.{length, getD, set, replicate, length-set, length-map, length-replicate}
+use lib.ListN.{List·getD-eq-default, List·getD-map}
 use lib.Seq.{getD-set-same, getD-set-other}
 use Rattle.field.specs.declared.Gf.{Gf}
 use Rattle.field.specs.Field.{F, 𝟎, of, byte, of-byte, byte-of, of-zero, val, val-zero}
@@ -47,7 +50,8 @@ module _ {A : Type 0} (m : A → F) (d : A) where
     below-read l i h = read-at m d l i ∙ ap m (List·getD-eq-default l d h) ∙ z
 
     pub read-zeros : (n : ℕ) (f : Series) → read m d (replicate n d) ≡ cut 0 f
-    read-zeros n f = fun-ext (λ i. read-at m d (replicate n d) i ∙ ap m (same n i) ∙ z ∙ sym (O-at i)) ∙ sym (cut-none f)
+    read-zeros n f =
+        fun-ext (λ i. read-at m d (replicate n d) i ∙ ap m (same n i) ∙ z ∙ sym (O-at i)) ∙ sym (cut-none f)
       where
         same : (n i : ℕ) → getD (replicate n d) i d ≡ d
         same zero i = refl
@@ -67,7 +71,8 @@ module _ {A : Type 0} (m : A → F) (d : A) where
 
 -- an array of bytes and the stored word of their values
 pub bytes-entry : (l : List ℕ) → bytes l ≡ entry (map of l)
-bytes-entry l = fun-ext (λ i. sym (entry-is (map of l) i ∙ ap (getD (map of l) i) (sym of-zero) ∙ List·getD-map of l i 0 ∙ sym (read-at of 0 l i)))
+bytes-entry l = fun-ext (λ i. sym (entry-is (map of l) i ∙ ap (getD (map of l) i) (sym of-zero) ∙ List·getD-map of l i 0
+    ∙ sym (read-at of 0 l i)))
 
 -- ---- bytes of words
 
@@ -77,7 +82,8 @@ bytes-back (x ∷ l) h = ap₂ _∷_ (byte-of x (h 0)) (bytes-back l (λ i. h (s
 
 -- the bytes of a stored word are those it came from
 pub word-bytes : (n : ℕ) (l : List ℕ) → length l ≡ n → ((i : ℕ) → getD l i 0 < 256) → map byte (word n (bytes l)) ≡ l
-word-bytes n l e h = ap (map byte) (ap (word n) (bytes-entry l) ∙ word-entry n (map of l) (length-map l of ∙ e)) ∙ bytes-back l h
+word-bytes n l e h =
+    ap (map byte) (ap (word n) (bytes-entry l) ∙ word-entry n (map of l) (length-map l of ∙ e)) ∙ bytes-back l h
 
 pub bytes-word : (w : List F) → bytes (map byte w) ≡ entry w
 bytes-word w = bytes-entry (map byte w) ∙ ap entry (back w)
@@ -98,7 +104,8 @@ pub record Filled (n i : ℕ) (f : Series) (l : List Gf) : Type 0 where
 pub filled-none : (n : ℕ) (f : Series) → Filled n 0 f (replicate n (record { 0 = 0 }))
 filled-none n f = record { long = length-replicate n _; is = read-zeros val _ val-zero n f }
 
-pub filled-more : {n i : ℕ} {f : Series} {l : List Gf} (v : Gf) → Filled n i f l → i < n → val v ≡ f i → Filled n (i + 1) f (set l i v)
+pub filled-more : {n i : ℕ} {f : Series} {l : List Gf} (v : Gf) → Filled n i f l → i < n → val v ≡ f i
+    → Filled n (i + 1) f (set l i v)
 filled-more {n} {i} {f} {l} v p h e =
     record { long = length-set l i v ∙ p .long; is = read-store val _ l i v f (omega (arith, p .long)) (p .is) e }
 

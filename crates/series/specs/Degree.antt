@@ -2,15 +2,16 @@
 --
 --   below n f   the coefficients of f are zero from n on
 --
--- Proved: bounds for constants, sums, products, shifts and parts; what is below 0 is zero, what is below 1 is a constant,
--- and what is below n is its own cut.
+-- Proved: bounds for constants, sums, products, shifts and parts; what is below 0 is zero, what is below 1 is a
+-- constant, and what is below n is its own cut.
 use Prim.Native.Nat.{ℕ, zero, suc, _+_, _-_, _≤_, _<_}
 use mathlib.Core.Path.{_≡_, refl, sym, _∙_, fun-ext}
 use native.Mathlib.Omega.{arith}
 use native.Mathlib.Decide.{decLe}
 use Rattle.field.specs.Field.{F, 𝟎, 𝟏, _⊙_, zero-⊕, ⊙-zero, zero-⊙}
 use Rattle.series.specs.Sum.{sum-zero}
-use Rattle.series.specs.Series.{Series, O, K, Z, _⊞_, _⊠_, tail, O-at, K-at0, K-suc, ⊞-at, ⊠-at, tail-at, K-⊠-at, Z-⊠-at, ⊠-one}
+use Rattle.series.specs.Series.{Series, O, K, Z, _⊞_, _⊠_, tail, O-at, K-at0, K-suc, ⊞-at, ⊠-at}
+use Rattle.series.specs.Series.{tail-at, K-⊠-at, Z-⊠-at, ⊠-one}
 use Rattle.series.specs.Shift.{zpow, drop, cut, zpow-at, zpow-other, drop-at, cut-high, cut-unique}
 
 abbrev pub below : ℕ → Series → Type 0

@@ -2,9 +2,9 @@
 --
 --   splice a n y l   the list l with y in place of the n entries from a on
 --
--- Proved, for arrays as series (`read` of Array): entries of beginnings, ends and joined lists (read-take, read-drop, read-left, read-right); a part is the
--- series from a on, cut at n (read-part, read-prefix); the whole with another part in it has the new part inside (splice-inside) and is as it was after
--- it (splice-after).
+-- Proved, for arrays as series (`read` of Array): entries of beginnings, ends and joined lists (read-take, read-drop,
+-- read-left, read-right); a part is the series from a on, cut at n (read-part, read-prefix); the whole with another
+-- part in it has the new part inside (splice-inside) and is as it was after it (splice-after).
 use Prim.Native.Nat.{ℕ, _+_, _-_, _≤_, _<_}
 use mathlib.Core.Path.{_≡_, sym, ap, _∙_}
 use mathlib.Core.List.{List, _++_}
@@ -31,11 +31,13 @@ module _ {A : Type 0} (m : A → F) (d : A) where
   pub read-right : (l k : List A) (i : ℕ) → read m d (l ++ k) (length l + i) ≡ read m d k i
   read-right l k i = read-at m d (l ++ k) (length l + i) ∙ ap m (getD-append-add l k i d) ∙ sym (read-at m d k i)
 
-  pub read-part : (z : m d ≡ 𝟎) (a n : ℕ) (l : List A) → a + n ≤ length l → read m d (take n (drop-list a l)) ≡ cut n (drop a (read m d l))
+  pub read-part : (z : m d ≡ 𝟎) (a n : ℕ) (l : List A) → a + n ≤ length l
+      → read m d (take n (drop-list a l)) ≡ cut n (drop a (read m d l))
   read-part z a n l h =
       sym (cut-unique n (drop a (read m d l)) (read m d (take n (drop-list a l)))
       (λ i q. drop-at a (read m d l) i ∙ sym (read-take n (drop-list a l) i q ∙ read-drop a l i))
-      (λ i q. below-read m d z (take n (drop-list a l)) i (omega (arith, length-take-le n (drop-list a l) (omega (arith, length-drop a l))))))
+      (λ i q. below-read m d z (take n (drop-list a l)) i
+      (omega (arith, length-take-le n (drop-list a l) (omega (arith, length-drop a l))))))
 
   pub read-prefix : (z : m d ≡ 𝟎) (n : ℕ) (l : List A) → n ≤ length l → read m d (take n l) ≡ cut n (read m d l)
   read-prefix z n l h =
@@ -52,7 +54,8 @@ module _ {A : Type 0} (m : A → F) (d : A) where
     pub splice-after : length y ≡ n → (i : ℕ) → a + n ≤ i → read m d (splice a n y l) i ≡ read m d l i
     splice-after e i q =
         let f : i ≡ a + (n + (i - (a + n))) = omega arith in
-        let g : a + (n + (i - (a + n))) ≡ length (take a l) + (length y + (i - (a + n))) = omega (arith, length-take-le a l h, e) in
+        let g : a + (n + (i - (a + n))) ≡ length (take a l) + (length y + (i - (a + n))) =
+        omega (arith, length-take-le a l h, e) in
         ap (read m d (splice a n y l)) (f ∙ g)
         ∙ read-right (take a l) (y ++ drop-list n (drop-list a l)) (length y + (i - (a + n)))
         ∙ read-right y (drop-list n (drop-list a l)) (i - (a + n))

@@ -5,7 +5,8 @@
 --   cut n f     f modulo z^n: the coefficients below n, then zeros
 --   zpow-ring   ⊠-ring with z^0 = 1 and z^(n+1) = z·z^n
 --
--- Proved: the coefficients of z^n·f, cancelling of z^n, f = cut n f + z^n·drop n f, and how drop and cut pass through sums and products.
+-- Proved: the coefficients of z^n·f, cancelling of z^n, f = cut n f + z^n·drop n f, and how drop and cut pass through
+-- sums and products.
 use Prim.Native.Nat.{ℕ, zero, suc, _+_, _-_, _≤_, _<_}
 use mathlib.Core.Path.{_≡_, refl, sym, ap, _∙_, fun-ext}
 use mathlib.Core.Logic.{_≢_, ite, if-pos, if-neg}
@@ -14,8 +15,8 @@ use native.Mathlib.Numerals.{add-one}
 use native.Mathlib.Omega.{arith}
 use native.Mathlib.Decide.{decLt, ℕ-discrete}
 use Rattle.field.specs.Field.{F, 𝟎, 𝟏, zero-⊕, ⊕-zero, one-⊙, ⊙-one, ⊙-zero}
-use Rattle.series.specs.Series.{Series, O, K, Z, _⊞_, _⊠_, tail, ⊠-ring, O-at, K-at0, K-suc, ⊞-at, tail-at, K-⊠-at, Z-⊠-at0, Z-⊠-at}
-use Rattle.series.specs.Series.{⊞-zero, ⊠-assoc, ⊠-one, one-⊠, zero-⊠, K-zero, ⊠-agree}
+use Rattle.series.specs.Series.{Series, O, K, Z, _⊞_, _⊠_, tail, ⊠-ring, O-at, K-at0, K-suc, ⊞-at, tail-at}
+use Rattle.series.specs.Series.{K-⊠-at, Z-⊠-at0, Z-⊠-at, ⊞-zero, ⊠-assoc, ⊠-one, one-⊠, zero-⊠, K-zero, ⊠-agree}
 
 unfoldable pub zpow : ℕ → Series
 zpow zero = K 𝟏
@@ -97,7 +98,8 @@ pub drop-zpow : (n : ℕ) (f : Series) → drop n (zpow n ⊠ f) ≡ f
 drop-zpow n f = fun-ext (λ i. simp (drop-at, zpow-at))
 
 pub zpow-divide : (n : ℕ) (f : Series) → ((i : ℕ) → i < n → f i ≡ 𝟎) → f ≡ zpow n ⊠ drop n f
-zpow-divide n f h = split-ext n _ _ (λ i l. h i l ∙ sym (zpow-low n _ i l)) (λ i. sym (zpow-at n (drop n f) i ∙ drop-at n f i))
+zpow-divide n f h =
+    split-ext n _ _ (λ i l. h i l ∙ sym (zpow-low n _ i l)) (λ i. sym (zpow-at n (drop n f) i ∙ drop-at n f i))
 
 -- ---- the coefficients below n
 
@@ -111,7 +113,8 @@ cut-high n f i h = if-neg (decLt i n) (omega arith) (f i) 𝟎
 
 pub cut-unique : (n : ℕ) (f g : Series) → ((i : ℕ) → i < n → f i ≡ g i) → ((i : ℕ) → n ≤ i → g i ≡ 𝟎) → cut n f ≡ g
 cut-unique n f g low high =
-    split-ext n _ _ (λ i l. cut-low n f i l ∙ low i l) (λ i. cut-high n f (n + i) (omega arith) ∙ sym (high (n + i) (omega arith)))
+    split-ext n _ _ (λ i l. cut-low n f i l ∙ low i l)
+    (λ i. cut-high n f (n + i) (omega arith) ∙ sym (high (n + i) (omega arith)))
 
 pub cut-none : (f : Series) → cut 0 f ≡ O
 cut-none f = cut-unique 0 f O (λ i l. absurd (omega arith)) (λ i l. O-at i)
@@ -143,11 +146,13 @@ cut-head n f = cut-unique (suc n) f _ low high
 
 pub cut-⊞ : (n : ℕ) (f g : Series) → cut n (f ⊞ g) ≡ cut n f ⊞ cut n g
 cut-⊞ n f g =
-    cut-unique n _ _ (λ i l. simp (⊞-at, cut-low n f i l, cut-low n g i l)) (λ i l. simp (⊞-at, cut-high n f i l, cut-high n g i l, zero-⊕))
+    cut-unique n _ _ (λ i l. simp (⊞-at, cut-low n f i l, cut-low n g i l))
+    (λ i l. simp (⊞-at, cut-high n f i l, cut-high n g i l, zero-⊕))
 
 pub cut-K-⊠ : (n : ℕ) (a : F) (f : Series) → cut n (K a ⊠ f) ≡ K a ⊠ cut n f
 cut-K-⊠ n a f =
-    cut-unique n _ _ (λ i l. rw (K-⊠-at, K-⊠-at a (cut n f), cut-low n f i l)) (λ i l. rw (K-⊠-at, cut-high n f i l) (⊙-zero a))
+    cut-unique n _ _ (λ i l. rw (K-⊠-at, K-⊠-at a (cut n f), cut-low n f i l))
+    (λ i l. rw (K-⊠-at, cut-high n f i l) (⊙-zero a))
 
 pub cut-⊠ : (n : ℕ) (f g : Series) (i : ℕ) → i < n → (f ⊠ cut n g) i ≡ (f ⊠ g) i
 cut-⊠ n f g i h = ⊠-agree f (cut n g) g i (λ j l. cut-low n g j (omega arith))

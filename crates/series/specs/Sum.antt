@@ -2,8 +2,8 @@
 --
 --   sum n f     f 0 + f 1 + .. + f (n - 1)
 --
--- Proved: the first or the last term apart, congruence, sums of sums, a factor drawn in, a sum cut in two, two sums exchanged,
--- sums with one term, with zeros at the end, and backwards.
+-- Proved: the first or the last term apart, congruence, sums of sums, a factor drawn in, a sum cut in two, two sums
+-- exchanged, sums with one term, with zeros at the end, and backwards.
 use Prim.Native.Nat.{ℕ, zero, suc, _+_, _-_, _≤_, _<_}
 use mathlib.Core.Path.{_≡_, refl, sym, _∙_, ap, ap₂}
 use mathlib.Core.Logic.{_≢_}
@@ -89,4 +89,5 @@ sum-more m n f l h =
 pub sum-rev : (n : ℕ) (f : ℕ → F) → sum (suc n) f ≡ sum (suc n) (λ i. f (n - i))
 unfolding sum
 sum-rev zero f = rw sub-zero
-sum-rev (suc n) f = rw (sum-rev n f) (sym (sum-head (suc n) (λ i. f (suc n - i)) ∙ simp (sub-zero, suc-sub-suc, ⊕-comm)))
+sum-rev (suc n) f =
+    rw (sum-rev n f) (sym (sum-head (suc n) (λ i. f (suc n - i)) ∙ simp (sub-zero, suc-sub-suc, ⊕-comm)))

@@ -1,25 +1,30 @@
 -- Values of polynomials, the factor 1 + a z, and the part with odd powers.
 --
---   value n f x   f 0 + f 1·x + .. + f (n - 1)·x^(n - 1): the value at x of the polynomial with the first n coefficients of f
+--   value n f x   f 0 + f 1·x + .. + f (n - 1)·x^(n - 1): the value at x of the polynomial with the first n
+--                 coefficients of f
 --   lin a         1 + a z
 --   geo a         1/(1 + a z) = 1 + a z + a² z² + ..
 --   parity i      i as a field value: 𝟏 if i is odd, else 𝟎
 --   odd f         the part of f with odd powers. Its coefficient i is i times that of f: z times the formal derivative
 --
--- Proved: the first or the last coefficient apart, zeros at the end, a polynomial cut in two, values of sums, of products, of powers of z
--- and of combinations of words; a polynomial with the root 1/a is a multiple of 1 + a z; `odd` is linear and a derivation.
+-- Proved: the first or the last coefficient apart, zeros at the end, a polynomial cut in two, values of sums, of
+-- products, of powers of z and of combinations of words; a polynomial with the root 1/a is a multiple of 1 + a z; `odd`
+-- is linear and a derivation.
 use Prim.Native.Nat.{ℕ, zero, suc, _+_, _-_, _≤_, _<_, _%_}
 use mathlib.Core.Path.{_≡_, refl, sym, ap, ap₂, _∙_, fun-ext}
 use mathlib.Core.Logic.{_≢_}
 use native.Mathlib.Nat.{zero-add, suc-add}
 use native.Mathlib.Omega.{arith}
-use Rattle.field.specs.Field.{F, 𝟎, 𝟏, _⊕_, _⊙_, ⊕-assoc, ⊕-comm, ⊕-self-left, ⊕-zero, zero-⊕, ⊙-assoc, ⊙-left-comm, ⊙-one, one-⊙, ⊙-zero, zero-⊙}
-use Rattle.field.specs.Field.{⊙-⊕, ⊕-⊙, ⊙-ring, pow, pow-zero, pow-suc, pow-add, pow-⊙, one-pow}
-use Rattle.series.specs.Sum.{sum, sum-none, sum-suc, sum-head, sum-cong, sum-zero, sum-more, sum-split, sum-⊕, ⊙-sum, sum-⊙, sum-swap}
-use Rattle.series.specs.Series.{Series, O, K, Z, _⊞_, _⊠_, tail, ⊠-ring, ⊞-lc}
-use Rattle.series.specs.Series.{O-at, K-at0, Z-at0, ⊞-at, ⊠-at, tail-at, K-⊠-at, Z-⊠-at0, zero-⊠, head-tail, tail-Z-⊠}
+use Rattle.field.specs.Field.{F, 𝟎, 𝟏, _⊕_, _⊙_, ⊕-assoc, ⊕-comm, ⊕-self-left, ⊕-zero, zero-⊕, ⊙-assoc}
+use Rattle.field.specs.Field.{⊙-left-comm, ⊙-one, one-⊙, ⊙-zero, zero-⊙, ⊙-⊕, ⊕-⊙, ⊙-ring, pow, pow-zero}
+use Rattle.field.specs.Field.{pow-suc, pow-add, pow-⊙, one-pow}
+use Rattle.series.specs.Sum.{sum, sum-none, sum-suc, sum-head, sum-cong, sum-zero, sum-more}
+use Rattle.series.specs.Sum.{sum-split, sum-⊕, ⊙-sum, sum-⊙, sum-swap}
+use Rattle.series.specs.Series.{Series, O, K, Z, _⊞_, _⊠_, tail, ⊠-ring, ⊞-lc, O-at, K-at0, Z-at0, ⊞-at, ⊠-at}
+use Rattle.series.specs.Series.{tail-at, K-⊠-at, Z-⊠-at0, zero-⊠, head-tail, tail-Z-⊠}
 use Rattle.series.specs.Shift.{zpow, drop, zpow-zero, zpow-suc, drop-at, drop-at0, drop-suc}
-use Rattle.series.specs.Degree.{below, below-weaken, below-K, below-Z, below-⊞, below-⊠, below-K-⊠, below-none, below-tail}
+use Rattle.series.specs.Degree.{below, below-weaken, below-K, below-Z, below-⊞, below-⊠}
+use Rattle.series.specs.Degree.{below-K-⊠, below-none, below-tail}
 
 unfoldable pub value : ℕ → Series → F → F
 value n f x = sum n (λ i. f i ⊙ pow x i)
@@ -53,13 +58,15 @@ pub value-split : (m n : ℕ) (f : Series) (x : F) → value (m + n) f x ≡ val
 unfolding value
 value-split m n f x =
     sum-split m n _
-    ∙ ap (λ t. value m f x ⊕ t) (sum-cong n _ _ (λ i l. rw (drop-at, pow-add) (⊙-left-comm _ _ _)) ∙ sym (⊙-sum (pow x m) n _))
+    ∙ ap (λ t. value m f x ⊕ t)
+    (sum-cong n _ _ (λ i l. rw (drop-at, pow-add) (⊙-left-comm _ _ _)) ∙ sym (⊙-sum (pow x m) n _))
 
 pub value-head : (n : ℕ) (f : Series) (x : F) → value (suc n) f x ≡ f 0 ⊕ x ⊙ value n (tail f) x
 unfolding value
 value-head n f x =
     sum-head n _
-    ∙ ap₂ _⊕_ (rw pow-zero (⊙-one (f 0))) (sum-cong n _ _ (λ i l. rw (tail-at, pow-suc) (⊙-left-comm _ _ _)) ∙ sym (⊙-sum x n _))
+    ∙ ap₂ _⊕_ (rw pow-zero (⊙-one (f 0)))
+    (sum-cong n _ _ (λ i l. rw (tail-at, pow-suc) (⊙-left-comm _ _ _)) ∙ sym (⊙-sum x n _))
 
 -- Horner's rule, from the top
 pub value-horner : (n : ℕ) (f : Series) (x : F) (i : ℕ) → 0 < i → i ≤ n
@@ -86,22 +93,27 @@ value-Z-⊠ n f x = value-head n (Z ⊠ f) x ∙ rw (tail-Z-⊠, Z-⊠-at0) (zer
 -- with the same number of coefficients on both sides
 pub value-shift : (n k : ℕ) (f : Series) (x : F) → below n f → n < k → value k (Z ⊠ f) x ≡ x ⊙ value k f x
 value-shift n zero f x p h = absurd (omega arith)
-value-shift n (suc k) f x p h = value-Z-⊠ k f x ∙ rw (value-more n k f x p (omega arith), value-more n (suc k) f x p (omega arith))
+value-shift n (suc k) f x p h =
+    value-Z-⊠ k f x ∙ rw (value-more n k f x p (omega arith), value-more n (suc k) f x p (omega arith))
 
 pub value-K : (n : ℕ) (a x : F) → value (suc n) (K a) x ≡ a
-value-K n a x = value-more 1 (suc n) (K a) x (below-K a) (omega arith) ∙ value-head 0 (K a) x ∙ simp (value-none, K-at0, ⊙-zero, ⊕-zero)
+value-K n a x = value-more 1 (suc n) (K a) x (below-K a) (omega arith) ∙ value-head 0 (K a) x
+    ∙ simp (value-none, K-at0, ⊙-zero, ⊕-zero)
 
 pub value-zpow : (n k : ℕ) (x : F) → n < k → value k (zpow n) x ≡ pow x n
 value-zpow n zero x h = absurd (omega arith)
 value-zpow zero (suc k) x h = rw (zpow-zero, pow-zero) (value-K k 𝟏 x)
-value-zpow (suc n) (suc k) x h = rw (zpow-suc, pow-suc) (value-Z-⊠ k (zpow n) x ∙ ap (λ t. x ⊙ t) (value-zpow n k x (omega arith)))
+value-zpow (suc n) (suc k) x h =
+    rw (zpow-suc, pow-suc) (value-Z-⊠ k (zpow n) x ∙ ap (λ t. x ⊙ t) (value-zpow n k x (omega arith)))
 
-pub value-⊠ : (m n k : ℕ) (f g : Series) (x : F) → below m f → below n g → m + n ≤ suc k → value k (f ⊠ g) x ≡ value m f x ⊙ value n g x
+pub value-⊠ : (m n k : ℕ) (f g : Series) (x : F) → below m f → below n g → m + n ≤ suc k
+    → value k (f ⊠ g) x ≡ value m f x ⊙ value n g x
 value-⊠ zero n k f g x p q h = rw (below-none f p, zero-⊠, value-none, zero-⊙) (value-zero k O x (λ i l. O-at i))
 value-⊠ (suc m) n zero f g x p q h = let e : n ≡ 0 = omega arith in rw e (simp (value-none, ⊙-zero))
 value-⊠ (suc m) n (suc k) f g x p q h =
     let e : f ⊠ g ≡ K (f 0) ⊠ g ⊞ Z ⊠ (tail f ⊠ g) = ⊞-lc (λ i. head-tail f i ⊠ g) (simp ⊠-ring) in
-    let ih : value k (tail f ⊠ g) x ≡ value m (tail f) x ⊙ value n g x = value-⊠ m n k (tail f) g x (below-tail m f p) q (omega arith) in
+    let ih : value k (tail f ⊠ g) x ≡ value m (tail f) x ⊙ value n g x =
+    value-⊠ m n k (tail f) g x (below-tail m f p) q (omega arith) in
     ap (λ t. value (suc k) t x) e
     ∙ value-⊞ (suc k) _ _ x
     ∙ rw (value-K-⊠, value-Z-⊠, value-more n (suc k) g x q (omega arith), ih, value-head m f x) (simp ⊙-ring)
@@ -136,16 +148,19 @@ below-lin a = below-⊞ 2 _ _ (below-weaken 1 2 _ (below-K 𝟏) (omega arith)) 
 pub below-lin-⊠ : (n k : ℕ) (a : F) (f : Series) → below n f → n < k → below k (lin a ⊠ f)
 below-lin-⊠ n k a f p h = below-⊠ 2 n k (lin a) f (below-lin a) p (omega arith)
 
-pub value-lin-⊠ : (n k : ℕ) (a : F) (f : Series) (x : F) → below n f → n < k → value k (lin a ⊠ f) x ≡ (𝟏 ⊕ a ⊙ x) ⊙ value k f x
+pub value-lin-⊠ : (n k : ℕ) (a : F) (f : Series) (x : F) → below n f → n < k
+    → value k (lin a ⊠ f) x ≡ (𝟏 ⊕ a ⊙ x) ⊙ value k f x
 value-lin-⊠ n k a f x p h =
     let e : lin a ⊠ f ≡ f ⊞ K a ⊠ (Z ⊠ f) = simp ⊠-ring in
     ap (λ t. value k t x) e ∙ value-⊞ k _ _ x ∙ rw (value-K-⊠, value-shift n k f x p h) (simp ⊙-ring)
 
 -- a polynomial with the root w = 1/a is a multiple of 1 + a z
-pub divide-lin : (m : ℕ) (a w : F) (f : Series) → a ⊙ w ≡ 𝟏 → below (suc m) f → value (suc m) f w ≡ 𝟎 → below m (f ⊠ geo a)
+pub divide-lin : (m : ℕ) (a w : F) (f : Series)
+    → a ⊙ w ≡ 𝟏 → below (suc m) f → value (suc m) f w ≡ 𝟎 → below m (f ⊠ geo a)
 divide-lin m a w f e p z i h =
     ⊠-at f (geo a) i
-    ∙ sum-cong (suc i) _ (λ j. pow a i ⊙ (f j ⊙ pow w j)) (λ j l. ap (λ t. f j ⊙ t) (back j (omega arith)) ∙ ⊙-left-comm _ _ _)
+    ∙ sum-cong (suc i) _ (λ j. pow a i ⊙ (f j ⊙ pow w j))
+    (λ j l. ap (λ t. f j ⊙ t) (back j (omega arith)) ∙ ⊙-left-comm _ _ _)
     ∙ sym (⊙-sum (pow a i) (suc i) (λ j. f j ⊙ pow w j))
     ∙ rw (← (value-is (suc i) f w), value-more (suc m) (suc i) f w p (omega arith), z) (⊙-zero _)
   where

@@ -4,8 +4,8 @@
 --   word n f    the first n values of f as a list
 --   weight n f  how many of the first n values of f are not zero: a strip's number of changes
 --
--- Proved: a list of n values and the first n values of a series are the same thing (entry-word, word-entry, word-ext, word-cut);
--- a word cut in two weighs what its parts weigh together (weight-split), a sum at most that.
+-- Proved: a list of n values and the first n values of a series are the same thing (entry-word, word-entry, word-ext,
+-- word-cut); a word cut in two weighs what its parts weigh together (weight-split), a sum at most that.
 use Prim.Native.Nat.{ℕ, zero, suc, _+_, _≤_, _<_}
 use mathlib.Core.Path.{_≡_, refl, sym, _∙_, ap, ap₂}
 use mathlib.Core.Logic.{_≢_, ite, if-pos, if-neg}
@@ -55,7 +55,8 @@ pub word-entry : (n : ℕ) (w : List F) → length w ≡ n → word n (entry w) 
 word-entry n w l = word-ext n (word n (entry w)) w (length-word n (entry w)) l (entry-word n (entry w))
 
 pub word-cut : (n : ℕ) (f : Series) → entry (word n f) ≡ cut n f
-word-cut n f = sym (cut-unique n f _ (λ i l. sym (entry-word n f i l)) (λ i l. entry-past _ i (omega (arith, length-word n f))))
+word-cut n f =
+    sym (cut-unique n f _ (λ i l. sym (entry-word n f i l)) (λ i l. entry-past _ i (omega (arith, length-word n f))))
 
 -- ---- weight
 
@@ -78,7 +79,8 @@ weight-take n f z = if-neg (f n ≟ 𝟎) z _ _
 pub weight-cong : (n : ℕ) (f g : Series) → ((i : ℕ) → i < n → f i ≡ g i) → weight n f ≡ weight n g
 unfolding weight
 weight-cong zero f g h = refl
-weight-cong (suc n) f g h = ap₂ (λ x k. ite (x ≟ 𝟎) k (suc k)) (h n (omega arith)) (weight-cong n f g (λ i l. h i (omega arith)))
+weight-cong (suc n) f g h =
+    ap₂ (λ x k. ite (x ≟ 𝟎) k (suc k)) (h n (omega arith)) (weight-cong n f g (λ i l. h i (omega arith)))
 
 pub weight-word : (n : ℕ) (f : Series) → weight n (entry (word n f)) ≡ weight n f
 weight-word n f = weight-cong n _ f (entry-word n f)
@@ -115,7 +117,8 @@ weight-split m (suc n) f = rw add-suc (go (weight-split m n f) (f (m + n) ≟ �
     g : Series
     g i = f (m + i)
 
-    go : weight (m + n) f ≡ weight m f + weight n g → Dec (f (m + n) ≡ 𝟎) → weight (suc (m + n)) f ≡ weight m f + weight (suc n) g
+    go : weight (m + n) f ≡ weight m f + weight n g → Dec (f (m + n) ≡ 𝟎)
+        → weight (suc (m + n)) f ≡ weight m f + weight (suc n) g
     go ih (yes z) = weight-skip (m + n) f z ∙ ih ∙ ap (λ k. weight m f + k) (sym (weight-skip n g z))
     go ih (no z) = omega (arith, weight-take (m + n) f z, weight-take n g z)
 
@@ -126,7 +129,9 @@ weight-⊕ (suc n) f g = go (weight-⊕ n f g) (f n ≟ 𝟎) (g n ≟ 𝟎)
     h : Series
     h p = f p ⊕ g p
 
-    go : weight n h ≤ weight n f + weight n g → Dec (f n ≡ 𝟎) → Dec (g n ≡ 𝟎) → weight (suc n) h ≤ weight (suc n) f + weight (suc n) g
-    go ih (yes x) (yes y) = omega (arith, weight-skip n f x, weight-skip n g y, weight-skip n h (ap₂ _⊕_ x y ∙ ⊕-zero 𝟎))
+    go : weight n h ≤ weight n f + weight n g → Dec (f n ≡ 𝟎) → Dec (g n ≡ 𝟎)
+        → weight (suc n) h ≤ weight (suc n) f + weight (suc n) g
+    go ih (yes x) (yes y) =
+        omega (arith, weight-skip n f x, weight-skip n g y, weight-skip n h (ap₂ _⊕_ x y ∙ ⊕-zero 𝟎))
     go ih (yes x) (no y) = omega (arith, weight-skip n f x, weight-take n g y, weight-suc n h .1)
     go ih (no x) y = omega (arith, weight-take n f x, weight-suc n g .0, weight-suc n h .1)

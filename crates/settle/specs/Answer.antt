@@ -2,11 +2,12 @@
 --
 --   answer n r      the answer r as an option: the pattern's first n symbols, or none
 --   Nothing r       r is the answer that nothing was found: the zero pattern
---   Sound t n s r   what r says holds, whatever it came from: a pattern that was found explains s; the count is its number of changes, and there is no
---                   change beyond position n - 1
+--   Sound t n s r   what r says holds, whatever it came from: a pattern that was found explains s; the count is its
+--                   number of changes, and there is no change beyond position n - 1
 --
--- Proved: each way out of `settle` keeps its promises, for a locator Λ said to have the length L: a length above t (long), a walk that met too few
--- roots (few), a pattern that does not explain (refused), and one that does (found). The part of the numerator that is lent is the whole of it (prefix-is).
+-- Proved: each way out of `settle` keeps its promises, for a locator Λ said to have the length L: a length above t
+-- (long), a walk that met too few roots (few), a pattern that does not explain (refused), and one that does (found).
+-- The part of the numerator that is lent is the whole of it (prefix-is).
 use Prim.Native.Nat.{ℕ, _+_, _-_, _*_, _≤_, _<_}
 use mathlib.Core.Path.{_≡_, sym, ap, _∙_}
 use mathlib.Core.Logic.{if-neg, by-cases}
@@ -30,7 +31,8 @@ use Rattle.key_equation.specs.Shortest.{length}
 use Rattle.settling.specs.Definition.{Explains, explains?, settle}
 use Rattle.settling.specs.Settle.{settle-one, settle-test}
 use Rattle.settling.specs.Solve.{explained}
-use Rattle.settling.specs.Candidate.{candidate-other, hits, hits-root, Multiple, candidate-is, roots-are, settle-long, settle-roots}
+use Rattle.settling.specs.Candidate.{candidate-other, hits, hits-root, Multiple, candidate-is}
+use Rattle.settling.specs.Candidate.{roots-are, settle-long, settle-roots}
 use Rattle.settle.specs.CandidateLocated.{Walked, walked-below}
 use Rattle.settle.specs.declared.Settled.{Settled}
 
@@ -50,7 +52,8 @@ pub record Sound (t n : ℕ) (s : Series) (r : Settled) : Type 0 where
 
 -- both promises
 abbrev Kept : (t n L : ℕ) (s Λ : Series) → Settled → Type 0
-Kept t n L s Λ r = Sound t n s r × (Multiple Λ (measure s (2 * t) .Λ) → L ≡ length s (2 * t) → answer n r ≡ settle t n s)
+Kept t n L s Λ r =
+    Sound t n s r × (Multiple Λ (measure s (2 * t) .Λ) → L ≡ length s (2 * t) → answer n r ≡ settle t n s)
 
 answer-nothing : (n : ℕ) (r : Settled) → Nothing r → answer n r ≡ none
 unfolding answer
@@ -83,15 +86,18 @@ module _ (t n L : ℕ) (s Λ : Series) (r : Settled) (hn : n ≤ 255) where
   long z h = (sound-nothing t n s r z, λ scaled is. answer-nothing n r z ∙ sym (settle-long t n s hn (omega arith)))
 
   -- after a walk over k coefficients
-  module _ (k : ℕ) (Ω : Series) (whole : Bool) (pattern : List Gf) (enough : L < k) (w : Walked n k L Λ Ω whole pattern) where
+  module _ (k : ℕ) (Ω : Series) (whole : Bool) (pattern : List Gf) (enough : L < k)
+      (w : Walked n k L Λ Ω whole pattern) where
     pub few : Nothing r → whole ≡ false → Kept t n L s Λ r
     few z h = (
       sound-nothing t n s r z,
-      λ scaled is. answer-nothing n r z ∙ sym (settle-roots t n k s Λ hn scaled (omega arith) (λ e. omega (arith, w .few h))),
+      λ scaled is.
+          answer-nothing n r z ∙ sym (settle-roots t n k s Λ hn scaled (omega arith) (λ e. omega (arith, w .few h))),
     )
 
     -- where the walk met L roots, its pattern is right
-    module _ (short : L ≤ t) (Ω-is : Ω ≡ cut L (Λ ⊠ s)) (all : whole ≡ true) (scaled : Multiple Λ (measure s (2 * t) .Λ)) (is : L ≡ length s (2 * t))
+    module _ (short : L ≤ t) (Ω-is : Ω ≡ cut L (Λ ⊠ s)) (all : whole ≡ true)
+        (scaled : Multiple Λ (measure s (2 * t) .Λ)) (is : L ≡ length s (2 * t))
         (e : Series) (x : Explains t n s e) where
       no-more : (p : ℕ) → w .end ≤ p → p < n → hits k Λ p ≡ 𝟎
       no-more p l h =
@@ -105,16 +111,20 @@ module _ (t n L : ℕ) (s Λ : Series) (r : Settled) (hn : n ≤ 255) where
             roots-are (2 * t) n k s Λ e hn scaled (omega arith) (explained t n s e hn x),
             w .all all,
           ) in
-          ap (hits k Λ) (sym at) ∙ zero-weight (n - w .end) (λ i. hits k Λ (w .end + i)) none-left (p - w .end) (omega arith)
+          ap (hits k Λ) (sym at)
+          ∙ zero-weight (n - w .end) (λ i. hits k Λ (w .end + i)) none-left (p - w .end) (omega arith)
 
       right : (p : ℕ) → p < n → values pattern p ≡ e p
       right p h =
           ap (λ (f : Series). f p) (w .is)
-          ∙ by-cases (decLt p (w .end)) (cut-low (w .end) _ p) (λ l. cut-high (w .end) _ p (omega arith) ∙ sym (candidate-other k Λ Ω p
+          ∙ by-cases (decLt p (w .end)) (cut-low (w .end) _ p)
+          (λ l. cut-high (w .end) _ p (omega arith) ∙ sym (candidate-other k Λ Ω p
           (λ root. hits-root k Λ p root (no-more p (omega arith) h))))
-          ∙ rw Ω-is (candidate-is (2 * t) n k s Λ e hn scaled (omega arith) (explained t n s e hn x) L (omega arith) (omega arith) p h)
+          ∙ rw Ω-is (candidate-is (2 * t) n k s Λ e hn scaled (omega arith) (explained t n s e hn x) L
+          (omega arith) (omega arith) p h)
 
-    pub refused : Nothing r → L ≤ t → Ω ≡ cut L (Λ ⊠ s) → whole ≡ true → holds (explains? t n s (values pattern)) ≡ false → Kept t n L s Λ r
+    pub refused : Nothing r → L ≤ t → Ω ≡ cut L (Λ ⊠ s) → whole ≡ true
+        → holds (explains? t n s (values pattern)) ≡ false → Kept t n L s Λ r
     refused z short Ω-is all h = (
       sound-nothing t n s r z,
       λ scaled is. answer-nothing n r z ∙ sym (settle-test t n s (values pattern) hn (right short Ω-is all scaled is)
@@ -122,7 +132,8 @@ module _ (t n L : ℕ) (s Λ : Series) (r : Settled) (hn : n ≤ 255) where
     )
 
     -- here the locator does not matter
-    pub found : r .found ≡ true → r .pattern ≡ pattern → r .count ≡ weight n (values pattern) → holds (explains? t n s (values pattern)) ≡ true
+    pub found : r .found ≡ true → r .pattern ≡ pattern → r .count ≡ weight n (values pattern)
+        → holds (explains? t n s (values pattern)) ≡ true
         → Kept t n L s Λ r
     found f p c h =
         let x : Explains t n s (values (r .pattern)) = rw p (test-passed (explains? t n s (values pattern)) h) in (

@@ -1,11 +1,13 @@
 -- The walk over the positions: what stands at position p, and what it leaves.
 --
---   Walking k L Λ Ω p missing pattern   at position p: the candidate at the positions below p; how many of L roots were not met there
---   Walked n k L Λ Ω whole pattern      at the end: the candidate below some position up to n; all L roots were met below it, or there are fewer
---                                       below n
+--   Walking k L Λ Ω p missing pattern   at position p: the candidate at the positions below p; how many of L roots were
+--                                       not met there
+--   Walked n k L Λ Ω whole pattern      at the end: the candidate below some position up to n; all L roots were met
+--                                       below it, or there are fewer below n
 --
--- Proved: the walk's start (walking-start), its next position after a root (walking-root) and after another one (walking-other), and its two ends
--- (walked-all, walked-few); the pattern has no change beyond position n - 1 (walked-below).
+-- Proved: the walk's start (walking-start), its next position after a root (walking-root) and after another one
+-- (walking-other), and its two ends (walked-all, walked-few); the pattern has no change beyond position n - 1
+-- (walked-below).
 use Prim.Native.Nat.{ℕ, _+_, _-_, _≤_, _<_}
 use mathlib.Core.Path.{_≡_, refl, sym, ap, ap₂, _∙_}
 use mathlib.Core.Logic.{_≢_}
@@ -40,7 +42,8 @@ pub record Walked (n k L : ℕ) (Λ Ω : Series) (whole : Bool) (pattern : List 
 pub candidate-at : (k m : ℕ) (Λ Ω : Series) (p : ℕ) → value k Λ (W p) ≡ 𝟎 → below m Ω → m ≤ k
     → candidate k Λ Ω p ≡ W p ⊙ value m Ω (W p) ⊙ inv (value k (odd Λ) (W p))
 candidate-at k m Λ Ω p z b h =
-    candidate-root k Λ Ω p z ∙ ap₂ (λ s t. s ⊙ t ⊙ inv (value k (odd Λ) (W p))) (lead-inv p) (value-more m k Ω (W p) b h)
+    candidate-root k Λ Ω p z
+    ∙ ap₂ (λ s t. s ⊙ t ⊙ inv (value k (odd Λ) (W p))) (lead-inv p) (value-more m k Ω (W p) b h)
 
 module _ {k L : ℕ} {Λ Ω : Series} where
   pub walking-start : Walking k L Λ Ω 0 L (replicate 255 (record { 0 = 0 }))
@@ -48,16 +51,20 @@ module _ {k L : ℕ} {Λ Ω : Series} where
 
   module _ {p missing : ℕ} {pattern : List Gf} (w : Walking k L Λ Ω p missing pattern) where
     -- a root is one less that is missing
-    pub walking-root : (m left : ℕ) (y : Gf) (d : F) (next : List Gf) → value k Λ (W p) ≡ 𝟎 → below m Ω → m ≤ k → p < 255 → 0 < missing
-        → val y ≡ W p ⊙ value m Ω (W p) ⊙ inv d → d ≡ value k (odd Λ) (W p) → next ≡ set pattern p y → left ≡ missing - 1
+    pub walking-root : (m left : ℕ) (y : Gf) (d : F) (next : List Gf)
+        → value k Λ (W p) ≡ 𝟎 → below m Ω → m ≤ k → p < 255 → 0 < missing
+        → val y ≡ W p ⊙ value m Ω (W p) ⊙ inv d → d ≡ value k (odd Λ) (W p)
+        → next ≡ set pattern p y → left ≡ missing - 1
         → Walking k L Λ Ω (p + 1) left next
     walking-root m left y d next z b h room some ey ed en el =
         record {
-          filled = rw en (filled-more y (w .filled) room (ey ∙ ap (λ t. W p ⊙ value m Ω (W p) ⊙ inv t) ed ∙ sym (candidate-at k m Λ Ω p z b h)));
+          filled = rw en (filled-more y (w .filled) room
+              (ey ∙ ap (λ t. W p ⊙ value m Ω (W p) ⊙ inv t) ed ∙ sym (candidate-at k m Λ Ω p z b h)));
           roots = rw add-one (omega (arith, weight-take p (hits k Λ) (hits-root k Λ p z), w .roots));
         }
 
-    pub walking-other : (left : ℕ) (next : List Gf) → value k Λ (W p) ≢ 𝟎 → next ≡ pattern → left ≡ missing → Walking k L Λ Ω (p + 1) left next
+    pub walking-other : (left : ℕ) (next : List Gf) → value k Λ (W p) ≢ 𝟎 → next ≡ pattern → left ≡ missing
+        → Walking k L Λ Ω (p + 1) left next
     walking-other left next z en el =
         record {
           filled = rw en (filled-skip (p + 1) (w .filled) (candidate-other k Λ Ω p z) refl);
@@ -80,8 +87,15 @@ module _ {k L : ℕ} {Λ Ω : Series} where
       is = w .filled .is;
       all = λ e. absurd (true≢false (sym e));
       few = λ _. let e : n ≡ p + (n - p) = omega arith in
-          omega (arith, ap (λ i. weight i (hits k Λ)) e, weight-split p (n - p) (hits k Λ), weight-le (n - p) (λ i. hits k Λ (p + i)), w .roots);
+          omega (
+            arith,
+            ap (λ i. weight i (hits k Λ)) e,
+            weight-split p (n - p) (hits k Λ),
+            weight-le (n - p) (λ i. hits k Λ (p + i)),
+            w .roots,
+          );
     }
 
-pub walked-below : {n k L : ℕ} {Λ Ω : Series} {whole : Bool} {pattern : List Gf} → Walked n k L Λ Ω whole pattern → below n (values pattern)
+pub walked-below : {n k L : ℕ} {Λ Ω : Series} {whole : Bool} {pattern : List Gf} → Walked n k L Λ Ω whole pattern
+    → below n (values pattern)
 walked-below w i h = ap (λ (f : Series). f i) (w .is) ∙ cut-high (w .end) _ i (omega (arith, w .room))

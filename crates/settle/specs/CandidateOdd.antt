@@ -1,7 +1,7 @@
 -- The odd part of a polynomial as an array of bytes.
 --
--- Proved: a loop that fills it with every other coefficient, from coefficient 1 on, keeps `bytes l ≡ cut i (odd f)`, i odd (odds-none, odds-more,
--- odds-all); the value of its first k entries, as they are lent (odds-value).
+-- Proved: a loop that fills it with every other coefficient, from coefficient 1 on, keeps `bytes l ≡ cut i (odd f)`, i
+-- odd (odds-none, odds-more, odds-all); the value of its first k entries, as they are lent (odds-value).
 use Prim.Native.Nat.{ℕ, _+_, _≤_, _<_, _%_}
 use mathlib.Core.Path.{_≡_, sym, ap, _∙_}
 use mathlib.Core.List.{List}
@@ -32,7 +32,9 @@ odds-all k i f o h l = go (ℕ-discrete i k)
   where
     go : Dec (i ≡ k) → cut i (odd f) ≡ cut k (odd f)
     go (yes e) = ap (λ j. cut j (odd f)) e
-    go (no e) = let d : i ≡ k + 1 = omega arith in ap (λ j. cut j (odd f)) d ∙ cut-zero k (odd f) (odd-no f k (omega arith))
+    go (no e) =
+        let d : i ≡ k + 1 = omega arith in
+        ap (λ j. cut j (odd f)) d ∙ cut-zero k (odd f) (odd-no f k (omega arith))
 
 pub odds-value : (k : ℕ) (f : Series) (l : List ℕ) (x : F) → k ≤ length l → bytes l ≡ cut k (odd f)
     → value (length (take k l)) (bytes (take k l)) x ≡ value k (odd f) x

@@ -1,6 +1,7 @@
 -- A locator of two terms, at the one position p where its value is zero: its second coefficient is X p times the first.
 --
--- Proved: the position by logarithms (one-place); what stands there is the walk's answer, where p is below n (one-found) and where it is not (one-none).
+-- Proved: the position by logarithms (one-place); what stands there is the walk's answer, where p is below n
+-- (one-found) and where it is not (one-none).
 use Prim.Native.Nat.{ℕ, suc, _+_, _-_, _≤_, _<_, _%_}
 use mathlib.Core.Path.{_≡_, sym, ap, ap₂, _∙_}
 use mathlib.Core.Logic.{_≢_}
@@ -9,7 +10,9 @@ use native.Mathlib.Numerals.{add-one}
 use native.Mathlib.Omega.{arith}
 use lib.ListN.{set, replicate}
 use Rattle.field.specs.declared.Gf.{Gf}
-use Rattle.field.specs.Field.{F, 𝟎, 𝟏, α, _⊕_, _⊙_, inv, val, log, ⊕-self, ⊕-equal, zero-⊕, ⊙-ring, ⊙-cancel, ⊙-one, one-⊙, ⊙-comm, mul-inv, inv-mul, inv-unique, pow-zero, pow-one, pow-add, pow-log, log-lt, power-inj, power-mod}
+use Rattle.field.specs.Field.{F, 𝟎, 𝟏, α, _⊕_, _⊙_, inv, val, log, ⊕-self, ⊕-equal, zero-⊕, ⊙-ring, ⊙-cancel}
+use Rattle.field.specs.Field.{⊙-one, one-⊙, ⊙-comm, mul-inv, inv-mul, inv-unique, pow-zero, pow-one, pow-add}
+use Rattle.field.specs.Field.{pow-log, log-lt, power-inj, power-mod}
 use Rattle.field.specs.Inverse.{log-inverse}
 use Rattle.series.specs.Series.{Series, O, O-at}
 use Rattle.series.specs.Shift.{cut-none, cut-unique}
@@ -68,7 +71,8 @@ module _ (Λ Ω : Series) (p : ℕ) (small : p < 255) (nonzero : Λ 0 ≢ 𝟎) 
   apart q h z =
       let e : Λ 0 ≡ Λ 1 ⊙ W q = ⊕-equal _ _ (sym (two-terms Λ (W q)) ∙ z) in
       let swapped : X q ⊙ (Λ 1 ⊙ W q) ≡ X q ⊙ W q ⊙ Λ 1 = simp ⊙-ring in
-      let same : Λ 0 ⊙ X q ≡ Λ 0 ⊙ X p = ⊙-comm (Λ 0) (X q) ∙ ap (λ t. X q ⊙ t) e ∙ swapped ∙ rw X-W (⊙-comm 𝟏 (Λ 1) ∙ ⊙-one (Λ 1)) ∙ sym place ∙ ⊙-comm _ _ in
+      let same : Λ 0 ⊙ X q ≡ Λ 0 ⊙ X p = ⊙-comm (Λ 0) (X q) ∙ ap (λ t. X q ⊙ t) e ∙ swapped
+      ∙ rw X-W (⊙-comm 𝟏 (Λ 1) ∙ ⊙-one (Λ 1)) ∙ sym place ∙ ⊙-comm _ _ in
       let is : q ≡ p = power-inj q p (omega arith) small (⊙-cancel (Λ 0) nonzero same) in
       omega arith
 
@@ -80,10 +84,12 @@ module _ (Λ Ω : Series) (p : ℕ) (small : p < 255) (nonzero : Λ 0 ≢ 𝟎) 
       let blank = filled-none 255 O in
       record {
         long = blank .long;
-        is = blank .is ∙ cut-none O ∙ sym (cut-unique p _ O (λ q l. candidate-other 2 Λ Ω q (apart q l) ∙ sym (O-at q)) (λ q l. O-at q));
+        is = blank .is ∙ cut-none O
+            ∙ sym (cut-unique p _ O (λ q l. candidate-other 2 Λ Ω q (apart q l) ∙ sym (O-at q)) (λ q l. O-at q));
       }
 
-  pub one-found : (n m : ℕ) (y : Gf) (b : F) → p < n → below m Ω → m ≤ 2 → Λ 1 ≢ 𝟎 → val y ≡ value m Ω (W p) ⊙ inv b → b ≡ Λ 1
+  pub one-found : (n m : ℕ) (y : Gf) (b : F)
+      → p < n → below m Ω → m ≤ 2 → Λ 1 ≢ 𝟎 → val y ≡ value m Ω (W p) ⊙ inv b → b ≡ Λ 1
       → Walked n 2 1 Λ Ω true (set (replicate 255 (record { 0 = 0 })) p y)
   one-found n m y b h few l other e is = record {
     end = p + 1;

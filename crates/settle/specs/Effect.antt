@@ -3,9 +3,9 @@
 --   Powers l      l holds the powers of α, from the power 0 up to 254
 --   same? m f g   whether f and g agree below m
 --
--- Proved: the syndromes of a change y at position p are X p times y, and each next one X p times the one before (change-is); the exponents of these
--- (first-exponent, next-exponent); a loop over the positions goes on by effect-more and count-more; what the test of a pattern looks at (test-long,
--- test-short).
+-- Proved: the syndromes of a change y at position p are X p times y, and each next one X p times the one before
+-- (change-is); the exponents of these (first-exponent, next-exponent); a loop over the positions goes on by effect-more
+-- and count-more; what the test of a pattern looks at (test-long, test-short).
 use Prim.Native.Nat.{ℕ, suc, _+_, _*_, _≤_, _<_, _%_}
 use mathlib.Core.Path.{_≡_, sym, ap, ap₂, _∙_, fun-ext}
 use mathlib.Core.Logic.{_≢_, ite}
@@ -14,7 +14,8 @@ use mathlib.Core.List.{List}
 use native.Mathlib.Numerals.{add-one}
 use native.Mathlib.Omega.{arith}
 use lib.ListN.{getD, replicate}
-use Rattle.field.specs.Field.{F, 𝟎, α, _⊙_, _≟_, of, of-zero, log, ⊙-ring, ⊙-comm, pow, pow-suc, pow-add, pow-log, power-mod}
+use Rattle.field.specs.Field.{F, 𝟎, α, _⊙_, _≟_, of, of-zero, log, ⊙-ring, ⊙-comm, pow}
+use Rattle.field.specs.Field.{pow-suc, pow-add, pow-log, power-mod}
 use Rattle.series.specs.Series.{Series, O, K, _⊞_, _⊠_, ⊠-ring, O-at, ⊞-at, K-zero, K-⊠-at}
 use Rattle.series.specs.Shift.{cut, cut-low, cut-none, cut-unique, cut-⊞, cut-K-⊠}
 use Rattle.series.specs.Value.{value-none, value-last}
@@ -37,7 +38,8 @@ sum-exponent e p r a is h = ap (pow α) is ∙ power-mod (e + p) ∙ pow-add α 
 pub first-exponent : (e p r : ℕ) (y : F) → y ≢ 𝟎 → e ≡ log y → r ≡ (e + p) % 255 → pow α r ≡ X p ⊙ y
 first-exponent e p r y h l is = sum-exponent e p r y is (ap (pow α) l ∙ pow-log y h)
 
-pub next-exponent : (e p r j : ℕ) (a : F) → r ≡ (e + p) % 255 → pow α e ≡ a ⊙ pow (X p) j → pow α r ≡ a ⊙ pow (X p) (j + 1)
+pub next-exponent : (e p r j : ℕ) (a : F) → r ≡ (e + p) % 255 → pow α e ≡ a ⊙ pow (X p) j
+    → pow α r ≡ a ⊙ pow (X p) (j + 1)
 next-exponent e p r j a is h = sum-exponent e p r _ is h ∙ rw (add-one, pow-suc) (simp ⊙-ring)
 
 pub change-is : (m p : ℕ) (y : F) → K (X p ⊙ y) ⊠ cut m (pow (X p)) ≡ K y ⊠ cut m (λ j. pow (root j) p)
@@ -61,14 +63,16 @@ syndrome-suc : (p : ℕ) (e : Series) → syndrome (suc p) e ≡ syndrome p e �
 syndrome-suc p e =
     fun-ext (λ j. syndrome-is (suc p) e j ∙ value-last p e (root j) ∙ sym (⊞-at _ _ j ∙ rw (K-⊠-at, syndrome-is p e j)))
 
-pub effect-more : (m p : ℕ) (e f g : Series) (y : F) → f ≡ cut m (syndrome p e) → y ≡ e p → g ≡ f ⊞ K y ⊠ cut m (λ j. pow (root j) p)
+pub effect-more : (m p : ℕ) (e f g : Series) (y : F) → f ≡ cut m (syndrome p e) → y ≡ e p
+    → g ≡ f ⊞ K y ⊠ cut m (λ j. pow (root j) p)
     → g ≡ cut m (syndrome (p + 1) e)
 effect-more m p e f g y is at more =
     more
     ∙ ap₂ (λ h a. h ⊞ K a ⊠ cut m (λ j. pow (root j) p)) is at
     ∙ sym (rw (add-one, syndrome-suc p e) (cut-⊞ m _ _ ∙ ap (λ h. cut m (syndrome p e) ⊞ h) (cut-K-⊠ m (e p) _)))
 
-pub count-more : (p count next : ℕ) (e : Series) (y : F) → count ≡ weight p e → y ≡ e p → next ≡ ite (y ≟ 𝟎) count (suc count)
+pub count-more : (p count next : ℕ) (e : Series) (y : F) → count ≡ weight p e → y ≡ e p
+    → next ≡ ite (y ≟ 𝟎) count (suc count)
     → next ≡ weight (p + 1) e
 unfolding weight
 count-more p count next e y is at more = more ∙ ap₂ (λ a n. ite (a ≟ 𝟎) n (suc n)) at is ∙ rw add-one
@@ -92,5 +96,9 @@ module _ (t n : ℕ) (s e : Series) where
       go : (d : Dec ((j : ℕ) → j < m → f j ≡ s j)) → holds d ≡ holds (explains? t n s e)
       go (yes a) =
           holds-yes (yes a) a
-          ∙ sym (holds-yes (explains? t n s e) (record { within = h; syndromes = λ j b. sym (at j (omega arith)) ∙ a j (omega arith) }))
-      go (no a) = holds-no (no a) a ∙ sym (holds-no (explains? t n s e) (λ x. a (λ j b. at j b ∙ x .syndromes j (omega arith))))
+          ∙ sym (holds-yes (explains? t n s e) (record {
+            within = h;
+            syndromes = λ j b. sym (at j (omega arith)) ∙ a j (omega arith);
+          }))
+      go (no a) = holds-no (no a) a
+          ∙ sym (holds-no (explains? t n s e) (λ x. a (λ j b. at j b ∙ x .syndromes j (omega arith))))

@@ -3,11 +3,12 @@
 --   symbol e      what the byte e stands for
 --   symbols l     an array of such bytes as a series: what they stand for, then zeros
 --   Table t       t holds the symbol of each byte
---   Steps f s     the 32 entries of s are what the exponents of terms f lose from a position to the next: i for term i, nothing for one that is zero
+--   Steps f s     the 32 entries of s are what the exponents of terms f lose from a position to the next: i for term i,
+--                 nothing for one that is zero
 --
--- Proved: the table of powers with a zero after it is a table (table-set); the exponent of a product with W s (back-less, back-more); a loop that
--- makes steps keeps `Steps` (steps-none, steps-more), they serve at every position (steps-terms), and what a step makes is the term at the next one
--- (step-term).
+-- Proved: the table of powers with a zero after it is a table (table-set); the exponent of a product with W s
+-- (back-less, back-more); a loop that makes steps keeps `Steps` (steps-none, steps-more), they serve at every position
+-- (steps-terms), and what a step makes is the term at the next one (step-term).
 use Prim.Native.Nat.{ℕ, zero, suc, _+_, _-_, _≤_, _<_}
 use mathlib.Core.Path.{_≡_, refl, sym, ap, ap₂, _∙_}
 use mathlib.Core.Logic.{_≢_, ite, if-pos, if-neg, by-cases}
@@ -17,7 +18,8 @@ use native.Mathlib.Nat.{not-suc-le-zero, le-of-suc-le-suc}
 use native.Mathlib.Omega.{arith}
 use lib.ListN.{length, getD, set, replicate, getD-replicate}
 use lib.Seq.{getD-set-same, getD-set-other}
-use Rattle.field.specs.Field.{F, 𝟎, α, _⊙_, _≟_, ⊙-comm, one-⊙, zero-⊙, ⊙-factor, of, of-zero, log, log-lt, pow, pow-add, pow-log, pow-nonzero, power-255, power-nonzero}
+use Rattle.field.specs.Field.{F, 𝟎, α, _⊙_, _≟_, ⊙-comm, one-⊙, zero-⊙, ⊙-factor, of, of-zero, log, log-lt, pow}
+use Rattle.field.specs.Field.{pow-add, pow-log, pow-nonzero, power-255, power-nonzero}
 use Rattle.series.specs.Series.{Series}
 use Rattle.series.specs.Shift.{cut, cut-low, cut-high}
 use Rattle.series.specs.Array.{read, read-at}
@@ -36,7 +38,8 @@ unfolding symbol
 symbol-none = if-neg (decLt 255 255) (omega arith) _ 𝟎
 
 pub symbol-zero : (e : ℕ) → e < 256 → symbol e ≡ 𝟎 → e ≡ 255
-symbol-zero e h z = by-cases (ℕ-discrete e 255) (λ i. i) (λ n. absurd (power-nonzero e (sym (symbol-some e (omega arith)) ∙ z)))
+symbol-zero e h z =
+    by-cases (ℕ-discrete e 255) (λ i. i) (λ n. absurd (power-nonzero e (sym (symbol-some e (omega arith)) ∙ z)))
 
 pub symbol-log : (e : ℕ) (y : F) → y ≢ 𝟎 → e ≡ log y → symbol e ≡ y
 symbol-log e y h l = symbol-some e (omega (arith, log-lt y)) ∙ ap (pow α) l ∙ pow-log y h
@@ -69,7 +72,8 @@ table-set l n h e b =
 pub back-less : (e s : ℕ) → e < s → s ≤ 255 → symbol (255 - (s - e)) ≡ symbol e ⊙ W s
 back-less e s h b =
     let d : e + (255 - s) ≡ 255 - (s - e) = omega arith in
-    symbol-some _ (omega arith) ∙ sym (ap₂ _⊙_ (symbol-some e (omega arith)) (W-is s b) ∙ sym (pow-add α e (255 - s)) ∙ ap (pow α) d)
+    symbol-some _ (omega arith)
+    ∙ sym (ap₂ _⊙_ (symbol-some e (omega arith)) (W-is s b) ∙ sym (pow-add α e (255 - s)) ∙ ap (pow α) d)
 
 pub back-more : (e s : ℕ) → s ≤ e → e ≤ 255 → (e ≡ 255 → s ≡ 0) → symbol (e - s) ≡ symbol e ⊙ W s
 back-more e s h b z = by-cases (ℕ-discrete e 255) none some
@@ -109,9 +113,11 @@ steps-more i f s v p h e j l = by-cases (ℕ-discrete j i) here (λ d. other d (
     here d = (rw d (getD-set-same s i v 0 h ∙ e)) ∙ step _ _ (sym (cut-low (i + 1) f j (omega arith)))
 
     other : j ≢ i → Dec (j < i) → getD (set s i v) j 0 ≡ ite (cut (i + 1) f j ≟ 𝟎) 0 j
-    other d (yes b) = getD-set-other s i j v 0 d ∙ p j l ∙ step _ _ (cut-low i f j b ∙ sym (cut-low (i + 1) f j (omega arith)))
+    other d (yes b) = getD-set-other s i j v 0 d ∙ p j l
+        ∙ step _ _ (cut-low i f j b ∙ sym (cut-low (i + 1) f j (omega arith)))
     other d (no b) =
-        getD-set-other s i j v 0 d ∙ p j l ∙ step _ _ (cut-high i f j (omega arith) ∙ sym (cut-high (i + 1) f j (omega arith)))
+        getD-set-other s i j v 0 d ∙ p j l
+        ∙ step _ _ (cut-high i f j (omega arith) ∙ sym (cut-high (i + 1) f j (omega arith)))
 
 step-zero : (f : Series) (s : List ℕ) (i : ℕ) → Steps f s → i < 32 → f i ≡ 𝟎 → getD s i 0 ≡ 0
 step-zero f s i p h z = p i h ∙ if-pos (f i ≟ 𝟎) z 0 i
@@ -123,15 +129,18 @@ step-other f s i p h z = p i h ∙ if-neg (f i ≟ 𝟎) z 0 i
 pub steps-terms : (x : F) (f : Series) (s : List ℕ) → x ≢ 𝟎 → Steps f s → Steps (terms x f) s
 steps-terms x f s h p i l =
     by-cases (f i ≟ 𝟎)
-    (λ z. step-zero f s i p l z ∙ sym (if-pos (terms x f i ≟ 𝟎) (terms-at x f i ∙ ap (λ t. t ⊙ pow x i) z ∙ zero-⊙ _) 0 i))
+    (λ z. step-zero f s i p l z
+    ∙ sym (if-pos (terms x f i ≟ 𝟎) (terms-at x f i ∙ ap (λ t. t ⊙ pow x i) z ∙ zero-⊙ _) 0 i))
     (λ z. step-other f s i p l z
-    ∙ sym (if-neg (terms x f i ≟ 𝟎) (λ e. z (⊙-factor _ _ (pow-nonzero x i h) (⊙-comm _ _ ∙ sym (terms-at x f i) ∙ e))) 0 i))
+    ∙ sym (if-neg (terms x f i ≟ 𝟎)
+    (λ e. z (⊙-factor _ _ (pow-nonzero x i h) (⊙-comm _ _ ∙ sym (terms-at x f i) ∙ e))) 0 i))
 
 -- the byte for zero has no step
 pub step-none : (l s : List ℕ) (i : ℕ) → Steps (symbols l) s → i < 32 → i < length l → getD l i 0 ≡ 255 → getD s i 0 ≡ 0
 step-none l s i p h b e = step-zero _ s i p h (symbols-at l i b ∙ ap symbol e ∙ symbol-none)
 
-pub step-term : (f : Series) (s : List ℕ) (i : ℕ) (y : F) → Steps f s → i < 32 → y ≡ f i ⊙ W (getD s i 0) → y ≡ terms (W 1) f i
+pub step-term : (f : Series) (s : List ℕ) (i : ℕ) (y : F)
+    → Steps f s → i < 32 → y ≡ f i ⊙ W (getD s i 0) → y ≡ terms (W 1) f i
 step-term f s i y p h e =
     e ∙ by-cases (f i ≟ 𝟎)
     (λ z. rw (terms-at, z) (zero-⊙ _ ∙ sym (zero-⊙ _)))

@@ -2,13 +2,15 @@
 --
 --   terms x f   the terms of f's value at x: coefficient i times x^i
 --
--- Proved: a value is the sum of its terms (value-terms); the terms at W 0 are the coefficients (terms-first), those at W (p + q) come from those at
--- W p (terms-add). Inverse locations multiply as their positions add (W-add), each is a power of the first (W-power), and none is zero (W-nonzero).
+-- Proved: a value is the sum of its terms (value-terms); the terms at W 0 are the coefficients (terms-first), those at
+-- W (p + q) come from those at W p (terms-add). Inverse locations multiply as their positions add (W-add), each is a
+-- power of the first (W-power), and none is zero (W-nonzero).
 use Prim.Native.Nat.{ℕ, zero, suc, _+_, _≤_}
 use mathlib.Core.Path.{_≡_, refl, sym, ap, ap₂, _∙_, fun-ext}
 use mathlib.Core.Logic.{_≢_}
 use native.Mathlib.Numerals.{add-one}
-use Rattle.field.specs.Field.{F, 𝟎, 𝟏, α, _⊙_, ⊙-one, ⊙-zero, zero-⊙, ⊙-ring, one≢zero, inv-unique, pow, pow-zero, pow-suc, pow-add, pow-⊙, one-pow}
+use Rattle.field.specs.Field.{F, 𝟎, 𝟏, α, _⊙_, ⊙-one, ⊙-zero, zero-⊙, ⊙-ring, one≢zero, inv-unique, pow, pow-zero}
+use Rattle.field.specs.Field.{pow-suc, pow-add, pow-⊙, one-pow}
 use Rattle.series.specs.Sum.{sum}
 use Rattle.series.specs.Series.{Series}
 use Rattle.series.specs.Degree.{below}

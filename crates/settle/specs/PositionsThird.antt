@@ -1,13 +1,13 @@
--- Values three positions at a time. W 85 has order three, so the terms at position p + 85 or p + 170 are those at p with one of three factors, by
--- their index modulo three.
+-- Values three positions at a time. W 85 has order three, so the terms at position p + 85 or p + 170 are those at p
+-- with one of three factors, by their index modulo three.
 --
 --   third a m f      f a + f (a + 3) + f (a + 6) + ..: m terms, every third one from term a on
 --   three x a b c    a + b·x + c·x²
 --   Placed p f l     the array l of 255 bytes holds f at the positions q, q + 85 and q + 170, for every q below p
 --
--- Proved: a value at W (p + q) from the thirds at W p, W q being a third root of one (value-three); w·w = w + 1 for w = W 85, so that two
--- products by w are enough (spread-zero, spread-one, spread-two). A loop that adds thirds goes on by third-more and ends by third-all, one that places
--- values by placed-more and placed-all.
+-- Proved: a value at W (p + q) from the thirds at W p, W q being a third root of one (value-three); w·w = w + 1 for
+-- w = W 85, so that two products by w are enough (spread-zero, spread-one, spread-two). A loop that adds thirds goes on
+-- by third-more and ends by third-all, one that places values by placed-more and placed-all.
 use Prim.Native.Nat.{ℕ, zero, suc, _+_, _*_, _/_, _%_, _≤_, _<_}
 use mathlib.Core.Path.{_≡_, sym, ap, ap₂, _∙_}
 use mathlib.Core.Logic.{_≢_}
@@ -15,8 +15,9 @@ use mathlib.Core.List.{List}
 use native.Mathlib.Decide.{ℕ-discrete}
 use native.Mathlib.Omega.{arith}
 use lib.ListN.{length, getD, set, length-set}
-use Rattle.field.specs.Field.{F, 𝟎, 𝟏, α, _⊕_, _⊙_, ⊕-self, ⊕-equal, ⊕-group, zero-⊕, ⊙-comm, ⊙-one, one-⊙, ⊙-ring, ⊙-factor, of, of-zero}
-use Rattle.field.specs.Field.{pow, pow-zero, pow-one, pow-suc, pow-add, pow-mul, one-pow, power-apart}
+use Rattle.field.specs.Field.{F, 𝟎, 𝟏, α, _⊕_, _⊙_, ⊕-self, ⊕-equal, ⊕-group, zero-⊕, ⊙-comm, ⊙-one}
+use Rattle.field.specs.Field.{one-⊙, ⊙-ring, ⊙-factor, of, of-zero, pow, pow-zero, pow-one, pow-suc}
+use Rattle.field.specs.Field.{pow-add, pow-mul, one-pow, power-apart}
 use Rattle.series.specs.Sum.{sum, sum-none, sum-suc, sum-cong, sum-more, ⊙-sum}
 use Rattle.series.specs.Series.{Series}
 use Rattle.series.specs.Shift.{cut, cut-low, cut-unique}
@@ -58,7 +59,8 @@ thirds (suc m) f =
     let d1 : 3 * m + 1 ≡ suc (3 * m) = omega arith in
     let d2 : 3 * m + 2 ≡ suc (suc (3 * m)) = omega arith in
     ap (λ n. sum n f) e
-    ∙ rw (sum-suc, sum-suc, sum-suc, thirds m f, third-suc 0 m f, third-suc 1 m f, third-suc 2 m f, d, d1, d2) (simp ⊕-group)
+    ∙ rw (sum-suc, sum-suc, sum-suc, thirds m f, third-suc 0 m f, third-suc 1 m f, third-suc 2 m f, d, d1, d2)
+    (simp ⊕-group)
 
 -- by a third root of one
 rotated : (a m : ℕ) (w : F) (f : Series) → pow w 3 ≡ 𝟏 → third a m (terms w f) ≡ pow w a ⊙ third a m f
@@ -77,7 +79,8 @@ three x a b c = a ⊕ x ⊙ (b ⊕ x ⊙ c)
 pow-two : (x : F) → pow x 2 ≡ x ⊙ x
 pow-two x = pow-suc x 1 ∙ ap (λ t. x ⊙ t) (pow-one x)
 
-pub value-three : (k p q r : ℕ) (f g : Series) (a b c : F) → below k f → k ≤ 27 → pow (W q) 3 ≡ 𝟏 → r ≡ p + q → g ≡ terms (W p) f
+pub value-three : (k p q r : ℕ) (f g : Series) (a b c : F)
+    → below k f → k ≤ 27 → pow (W q) 3 ≡ 𝟏 → r ≡ p + q → g ≡ terms (W p) f
     → a ≡ third 0 9 g → b ≡ third 1 9 g → c ≡ third 2 9 g → three (W q) a b c ≡ value k f (W r)
 value-three k p q r f g a b c low h root is at ea eb ec =
     (λ i. three (W q) (ea i) (eb i) (ec i))
@@ -85,7 +88,8 @@ value-three k p q r f g a b c low h root is at ea eb ec =
     ∙ value-terms k 27 f (W (p + q)) low h
     ∙ ap (sum 27) (sym (ap (terms (W q)) at ∙ terms-add p q f))
     ∙ thirds 9 (terms (W q) g)
-    ∙ rw (rotated 0 9 (W q) g root, rotated 1 9 (W q) g root, rotated 2 9 (W q) g root, pow-zero, pow-one, pow-two) (simp ⊙-ring))
+    ∙ rw (rotated 0 9 (W q) g root, rotated 1 9 (W q) g root, rotated 2 9 (W q) g root, pow-zero, pow-one, pow-two)
+    (simp ⊙-ring))
 
 -- ---- third roots of one
 
@@ -106,19 +110,22 @@ cube-two = cube 170 (W-add 255 255 ∙ ap₂ _⊙_ W-255 W-255 ∙ ⊙-one 𝟏)
 
 -- w³ + 1 = (w + 1)·(w² + w + 1), and w is not 1
 square : W 85 ⊙ W 85 ≡ W 85 ⊕ 𝟏
-square = ⊕-equal _ _ (⊙-factor (w ⊕ 𝟏) _ apart (product ∙ ap (λ t. t ⊕ 𝟏) (sym (pow-suc w 2 ∙ ap (λ t. w ⊙ t) (pow-two w)) ∙ cube-one) ∙ ⊕-self 𝟏))
+square = ⊕-equal _ _ (⊙-factor (w ⊕ 𝟏) _ apart
+    (product ∙ ap (λ t. t ⊕ 𝟏) (sym (pow-suc w 2 ∙ ap (λ t. w ⊙ t) (pow-two w)) ∙ cube-one) ∙ ⊕-self 𝟏))
   where
     w : F
     w = W 85
 
     apart : W 85 ⊕ 𝟏 ≢ 𝟎
-    apart z = power-apart 170 0 (omega arith) (omega arith) (omega arith) (ap₂ _⊕_ (sym (W-is 85 (omega arith))) (pow-zero α) ∙ z)
+    apart z = power-apart 170 0 (omega arith) (omega arith) (omega arith)
+        (ap₂ _⊕_ (sym (W-is 85 (omega arith))) (pow-zero α) ∙ z)
 
     product : (w ⊕ 𝟏) ⊙ (w ⊙ w ⊕ (w ⊕ 𝟏)) ≡ w ⊙ (w ⊙ w) ⊕ 𝟏
     product = simp ⊙-ring
 
 -- a product by a lookup
-pub product-at : (l : List ℕ) (w : F) (x i : ℕ) → ProductRow l → factor l ≡ w → i ≡ x → i < 256 → of (getD l i 0) ≡ w ⊙ of x
+pub product-at : (l : List ℕ) (w : F) (x i : ℕ) → ProductRow l → factor l ≡ w → i ≡ x → i < 256
+    → of (getD l i 0) ≡ w ⊙ of x
 product-at l w x i p e is h = sym (read-at of 0 l i) ∙ row-at l i p h ∙ ap₂ _⊙_ e (ap of is)
 
 module _ (a b c : F) where
@@ -133,7 +140,8 @@ module _ (a b c : F) where
   pub spread-two : a ⊕ W 85 ⊙ b ⊕ b ⊕ W 85 ⊙ c ≡ three (W 170) a b c
   spread-two =
       let e : three (W 85 ⊕ 𝟏) a b c ≡ a ⊕ W 85 ⊙ b ⊕ b ⊕ (W 85 ⊙ W 85 ⊕ 𝟏) ⊙ c = simp ⊙-ring in
-      sym (ap (λ t. three t a b c) (W-add 85 85 ∙ square) ∙ e ∙ ap (λ t. a ⊕ W 85 ⊙ b ⊕ b ⊕ (t ⊕ 𝟏) ⊙ c) square ∙ simp ⊙-ring)
+      sym (ap (λ t. three t a b c) (W-add 85 85 ∙ square) ∙ e
+      ∙ ap (λ t. a ⊕ W 85 ⊙ b ⊕ b ⊕ (t ⊕ 𝟏) ⊙ c) square ∙ simp ⊙-ring)
 
 -- ---- three places at a time
 
@@ -144,10 +152,14 @@ pub record Placed (p : ℕ) (f : Series) (l : List ℕ) : Type 0 where
 pub placed-none : (f : Series) (l : List ℕ) → length l ≡ 255 → Placed 0 f l
 placed-none f l h = record { long = h; at = λ j b z. absurd (omega arith) }
 
-pub placed-more : {p : ℕ} {f : Series} {l : List ℕ} (x y z : ℕ) → Placed p f l → p < 85 → of x ≡ f p → of y ≡ f (p + 85) → of z ≡ f (p + 170)
+pub placed-more : {p : ℕ} {f : Series} {l : List ℕ} (x y z : ℕ)
+    → Placed p f l → p < 85 → of x ≡ f p → of y ≡ f (p + 85) → of z ≡ f (p + 170)
     → Placed (p + 1) f (set (set (set l p x) (p + 85) y) (p + 170) z)
 placed-more {p} {f} {l} x y z t h ex ey ez =
-    record { long = length-set m (p + 170) z ∙ long2; at = λ j b r. go j b r (ℕ-discrete j (p + 170)) (ℕ-discrete j (p + 85)) (ℕ-discrete j p) }
+    record {
+      long = length-set m (p + 170) z ∙ long2;
+      at = λ j b r. go j b r (ℕ-discrete j (p + 170)) (ℕ-discrete j (p + 85)) (ℕ-discrete j p);
+    }
   where
     n : List ℕ
     n = set l p x
@@ -161,17 +173,23 @@ placed-more {p} {f} {l} x y z t h ex ey ez =
     long2 : length m ≡ 255
     long2 = length-set n (p + 85) y ∙ long1
 
-    go : (j : ℕ) → j < 255 → j % 85 < p + 1 → Dec (j ≡ p + 170) → Dec (j ≡ p + 85) → Dec (j ≡ p) → bytes (set m (p + 170) z) j ≡ f j
+    go : (j : ℕ) → j < 255 → j % 85 < p + 1 → Dec (j ≡ p + 170) → Dec (j ≡ p + 85) → Dec (j ≡ p)
+        → bytes (set m (p + 170) z) j ≡ f j
     go j b r (yes e) d c = rw e (read-set-same of 0 m (p + 170) z (omega (arith, long2)) ∙ ez)
-    go j b r (no e) (yes d) c = read-set-other of 0 m (p + 170) j z e ∙ rw d (read-set-same of 0 n (p + 85) y (omega (arith, long1)) ∙ ey)
+    go j b r (no e) (yes d) c = read-set-other of 0 m (p + 170) j z e
+        ∙ rw d (read-set-same of 0 n (p + 85) y (omega (arith, long1)) ∙ ey)
     go j b r (no e) (no d) (yes c) =
-        read-set-other of 0 m (p + 170) j z e ∙ read-set-other of 0 n (p + 85) j y d ∙ rw c (read-set-same of 0 l p x (omega (arith, t .long)) ∙ ex)
+        read-set-other of 0 m (p + 170) j z e ∙ read-set-other of 0 n (p + 85) j y d
+        ∙ rw c (read-set-same of 0 l p x (omega (arith, t .long)) ∙ ex)
     go j b r (no e) (no d) (no c) =
-        read-set-other of 0 m (p + 170) j z e ∙ read-set-other of 0 n (p + 85) j y d ∙ read-set-other of 0 l p j x c ∙ t .at j b (omega arith)
+        read-set-other of 0 m (p + 170) j z e ∙ read-set-other of 0 n (p + 85) j y d ∙ read-set-other of 0 l p j x c
+        ∙ t .at j b (omega arith)
 
 -- values of g, which holds the first k coefficients of f
-pub placed-all : (k : ℕ) (f g : Series) {l : List ℕ} → g ≡ cut k f → Placed 85 (λ q. value k g (W q)) l → bytes l ≡ cut 255 (λ q. value k f (W q))
-placed-all k f g {l} e t = sym (cut-unique 255 _ (bytes l) (λ j h. sym (at j h)) (λ j h. below-read of 0 of-zero l j (omega (arith, t .long))))
+pub placed-all : (k : ℕ) (f g : Series) {l : List ℕ} → g ≡ cut k f → Placed 85 (λ q. value k g (W q)) l
+    → bytes l ≡ cut 255 (λ q. value k f (W q))
+placed-all k f g {l} e t =
+    sym (cut-unique 255 _ (bytes l) (λ j h. sym (at j h)) (λ j h. below-read of 0 of-zero l j (omega (arith, t .long))))
   where
     at : (j : ℕ) → j < 255 → bytes l j ≡ value k f (W j)
     at j h = t .at j h (omega arith) ∙ ap (λ s. value k s (W j)) e ∙ value-cong k _ _ (W j) (cut-low k f)

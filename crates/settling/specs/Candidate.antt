@@ -1,13 +1,18 @@
--- The candidate: the pattern that two polynomials Λ and Ω put forward, whatever they are. Settling is to put it to the test.
+-- The candidate: the pattern that two polynomials Λ and Ω put forward, whatever they are. Settling is to put it
+-- to the test.
 --
---   candidate k Λ Ω   at position p, with w = W p: w·Ω(w)/Λ_odd(w) if w is a root of Λ, else zero. k coefficients of each are read
---   hits k Λ          one where W p is a root of Λ, else zero: weight n (hits k Λ) is the number of roots at positions below n
---   Multiple f g      f is g times a constant that is not zero; so the Λ of each form of the solver is a multiple of the measure's
+--   candidate k Λ Ω   at position p, with w = W p: w·Ω(w)/Λ_odd(w) if w is a root of Λ, else zero. k coefficients of
+--                     each are read
+--   hits k Λ          one where W p is a root of Λ, else zero: weight n (hits k Λ) is the number of roots at
+--                     positions below n
+--   Multiple f g      f is g times a constant that is not zero; so the Λ of each form of the solver is a multiple of
+--                     the measure's
 --
--- Proved, for Λ a multiple of the measure's after 2t iterations over s, and Ω = Λ·s below m: s is settled by the candidate if the candidate explains
--- it, and else by nothing (settle-candidate). With L the length it is enough to read L + 1 coefficients of Λ and L of Λ·s. A test that fails early is
--- right to answer none: nothing settles s if L exceeds t (settle-long) or is not the number of roots at positions below n (settle-roots).
--- That a candidate that explains is what settles, whatever Λ and Ω are, is `settle-one`.
+-- Proved, for Λ a multiple of the measure's after 2t iterations over s, and Ω = Λ·s below m: s is settled by the
+-- candidate if the candidate explains it, and else by nothing (settle-candidate). With L the length it is enough to
+-- read L + 1 coefficients of Λ and L of Λ·s. A test that fails early is right to answer none: nothing settles s if L
+-- exceeds t (settle-long) or is not the number of roots at positions below n (settle-roots). That a candidate that
+-- explains is what settles, whatever Λ and Ω are, is `settle-one`.
 use Prim.Native.Nat.{ℕ, zero, suc, _*_, _≤_, _<_}
 use mathlib.Core.Path.{_≡_, sym, ap, ap₂, _∙_}
 use mathlib.Core.Logic.{_≢_, ite, if-pos, if-neg, by-cases}
@@ -58,7 +63,8 @@ quotient y l b o h d =
     let e : inv l ⊙ (b ⊙ (y ⊙ l ⊙ o)) ⊙ inv (b ⊙ o) ≡ y ⊙ (l ⊙ inv l) ⊙ (b ⊙ o ⊙ inv (b ⊙ o)) = simp ⊙-ring in
     e ∙ rw (mul-inv l h, mul-inv (b ⊙ o) d) (simp ⊙-ring)
 
-module _ (n k : ℕ) (e Λ : Series) (b : F) (hn : n ≤ 255) (hk : weight n e < k) (hb : b ≢ 𝟎) (is : Λ ≡ K b ⊠ locator n e) (p : ℕ) (hp : p < n) where
+module _ (n k : ℕ) (e Λ : Series) (b : F) (hn : n ≤ 255) (hk : weight n e < k) (hb : b ≢ 𝟎) (is : Λ ≡ K b ⊠ locator n e)
+    (p : ℕ) (hp : p < n) where
   value-is : value k Λ (W p) ≡ b ⊙ value k (locator n e) (W p)
   value-is = ap (λ f. value k f (W p)) is ∙ value-K-⊠ k b _ (W p)
 
@@ -82,7 +88,8 @@ module _ (n k : ℕ) (e Λ : Series) (b : F) (hn : n ≤ 255) (hk : weight n e <
 
 -- ---- words that are zero at the same positions
 
-weight-same : (n : ℕ) (f g : Series) → ((p : ℕ) → p < n → g p ≡ 𝟎 → f p ≡ 𝟎) → ((p : ℕ) → p < n → g p ≢ 𝟎 → f p ≢ 𝟎) → weight n f ≡ weight n g
+weight-same : (n : ℕ) (f g : Series) → ((p : ℕ) → p < n → g p ≡ 𝟎 → f p ≡ 𝟎) → ((p : ℕ) → p < n → g p ≢ 𝟎 → f p ≢ 𝟎)
+    → weight n f ≡ weight n g
 weight-same zero f g h c = weight-none f ∙ sym (weight-none g)
 weight-same (suc n) f g h c =
     let ih : weight n f ≡ weight n g = weight-same n f g (λ p l. h p (omega arith)) (λ p l. c p (omega arith)) in
@@ -96,7 +103,8 @@ abbrev pub Multiple : Series → Series → Type 0
 Multiple f g = (a : F) × (a ≢ 𝟎) × (f ≡ K a ⊠ g)
 
 -- Λ·s below m is a multiple of P
-numerator : (r m : ℕ) (s Λ : Series) (a : F) → length s r ≤ m → m ≤ r → Λ ≡ K a ⊠ measure s r .Λ → cut m (Λ ⊠ s) ≡ K a ⊠ invariant s r .P
+numerator : (r m : ℕ) (s Λ : Series) (a : F) → length s r ≤ m → m ≤ r → Λ ≡ K a ⊠ measure s r .Λ
+    → cut m (Λ ⊠ s) ≡ K a ⊠ invariant s r .P
 numerator r m s Λ a l h is = cut-unique m _ _ low (below-K-⊠ m a _ (below-weaken _ m _ (invariant s r .below-P) l))
   where
     low : (i : ℕ) → i < m → (Λ ⊠ s) i ≡ (K a ⊠ invariant s r .P) i
@@ -108,7 +116,8 @@ numerator r m s Λ a l h is = cut-unique m _ _ low (below-K-⊠ m a _ (below-wea
         ∙ sym (K-⊠-at a _ i)
 
 -- where e is found, after r iterations over s
-module _ (r n k : ℕ) (s Λ e : Series) (hn : n ≤ 255) (scaled : Multiple Λ (measure s r .Λ)) (enough : length s r < k) (f : Found s r n e) where
+module _ (r n k : ℕ) (s Λ e : Series) (hn : n ≤ 255) (scaled : Multiple Λ (measure s r .Λ)) (enough : length s r < k)
+    (f : Found s r n e) where
   factor : F
   factor = scaled .0 ⊙ measure s r .Λ 0
 
@@ -122,7 +131,8 @@ module _ (r n k : ℕ) (s Λ e : Series) (hn : n ≤ 255) (scaled : Multiple Λ 
 
   evaluators : (m : ℕ) → length s r ≤ m → m ≤ r → cut m (Λ ⊠ s) ≡ K factor ⊠ evaluator n e
   unfolding factor
-  evaluators m l h = numerator r m s Λ (scaled .0) l h (scaled .2) ∙ ⊞-lc (λ i. K (scaled .0) ⊠ f .evaluator-is i) (simp ⊠-ring)
+  evaluators m l h = numerator r m s Λ (scaled .0) l h (scaled .2)
+      ∙ ⊞-lc (λ i. K (scaled .0) ⊠ f .evaluator-is i) (simp ⊠-ring)
 
   few : weight n e < k
   few = omega (arith, enough, f .length-is)
@@ -141,13 +151,15 @@ module _ (r n k : ℕ) (s Λ e : Series) (hn : n ≤ 255) (scaled : Multiple Λ 
 
 pub settle-candidate : (t n k m : ℕ) (s Λ : Series) → n ≤ 255 → Multiple Λ (measure s (2 * t) .Λ)
     → length s (2 * t) < k → length s (2 * t) ≤ m → m ≤ 2 * t
-    → settle t n s ≡ ite (explains? t n s (candidate k Λ (cut m (Λ ⊠ s)))) (some (word n (candidate k Λ (cut m (Λ ⊠ s))))) none
+    → settle t n s
+    ≡ ite (explains? t n s (candidate k Λ (cut m (Λ ⊠ s)))) (some (word n (candidate k Λ (cut m (Λ ⊠ s))))) none
 settle-candidate t n k m s Λ hn scaled enough l h =
     settle-test t n s _ hn (λ e x. candidate-is (2 * t) n k s Λ e hn scaled enough (explained t n s e hn x) m l h)
 
 pub settle-roots : (t n k : ℕ) (s Λ : Series) → n ≤ 255 → Multiple Λ (measure s (2 * t) .Λ) → length s (2 * t) < k
     → weight n (hits k Λ) ≢ length s (2 * t) → settle t n s ≡ none
-settle-roots t n k s Λ hn scaled enough h = settle-never t n s (λ e x. h (roots-are (2 * t) n k s Λ e hn scaled enough (explained t n s e hn x)))
+settle-roots t n k s Λ hn scaled enough h =
+    settle-never t n s (λ e x. h (roots-are (2 * t) n k s Λ e hn scaled enough (explained t n s e hn x)))
 
 pub settle-long : (t n : ℕ) (s : Series) → n ≤ 255 → t < length s (2 * t) → settle t n s ≡ none
 settle-long t n s hn h = settle-never t n s (λ e x. omega (arith, explained t n s e hn x .length-is, x .within))

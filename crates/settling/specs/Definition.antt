@@ -1,5 +1,6 @@
 -- What settles a subword: FORMAT 6.2 and 6.3. No algorithm is mentioned here.
--- A pattern of changes is a word: a series of which the first n symbols are read. Of a subword's syndromes the first 2t are read.
+-- A pattern of changes is a word: a series of which the first n symbols are read. Of a subword's syndromes the first
+-- 2t are read.
 --
 --   Within t n e       the pattern e is within the capability t
 --   Explains t n s e   it is, and its syndromes are those of s

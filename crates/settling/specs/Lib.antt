@@ -1,4 +1,5 @@
--- Definition is what the promises speak of; Settle has its laws; Locator and Solve prove what the solver finds; Candidate is what code cites.
+-- Definition is what the promises speak of; Settle has its laws; Locator and Solve prove what the solver finds;
+-- Candidate is what code cites.
 pub mod Definition
 pub mod Locator
 pub mod Settle

@@ -4,21 +4,23 @@
 --   W p               its inverse
 --   lead p            the power p of the first root: a change y at position p adds y · lead p · X_p^j to syndrome j
 --   locator n e       the product of 1 + X_p z over the changed positions p
---   evaluator n e     the sum of e_p · lead p over the changed positions p, each times the product of 1 + X_i z over the other ones
+--   evaluator n e     the sum of e_p · lead p over the changed positions p, each times the product of 1 + X_i z over
+--                     the other ones
 --   Vanishes e n l f  f, of l + 1 coefficients, is zero at W p for every changed position p
 --
--- Proved: locator times all syndromes is the evaluator (key); degrees; W p is a root of the locator exactly at the changed positions (locator-root,
--- locator-apart); there the odd part of the locator is not zero and the evaluator over it is lead p times the change (forney); a polynomial of
--- degree l vanishes at no more than l changed positions (few-roots).
+-- Proved: locator times all syndromes is the evaluator (key); degrees; W p is a root of the locator exactly at the
+-- changed positions (locator-root, locator-apart); there the odd part of the locator is not zero and the evaluator over
+-- it is lead p times the change (forney); a polynomial of degree l vanishes at no more than l changed positions
+-- (few-roots).
 use Prim.Native.Nat.{ℕ, zero, suc, _+_, _-_, _≤_, _<_}
 use mathlib.Core.Path.{_≡_, refl, sym, ap, ap₂, _∙_, fun-ext}
 use mathlib.Core.Logic.{_≢_, ite, if-pos, if-neg, by-cases}
 use native.Mathlib.Nat.{mul-comm}
 use native.Mathlib.Omega.{arith}
 use native.Mathlib.Decide.{ℕ-discrete}
-use Rattle.field.specs.Field.{F, 𝟎, 𝟏, α, _⊕_, _⊙_, _≟_, ⊕-self, ⊕-equal, ⊙-assoc, ⊙-left-comm, ⊙-one, ⊙-zero, zero-⊙, ⊙-ring, ⊙-factor, ⊙-nonzero}
-use Rattle.field.specs.Field.{one≢zero, inv, mul-inv, inv-unique}
-use Rattle.field.specs.Field.{pow, pow-zero, pow-one, pow-add, pow-mul, pow-⊙, power-255, power-inj, power-nonzero}
+use Rattle.field.specs.Field.{F, 𝟎, 𝟏, α, _⊕_, _⊙_, _≟_, ⊕-self, ⊕-equal, ⊙-assoc, ⊙-left-comm, ⊙-one, ⊙-zero, zero-⊙}
+use Rattle.field.specs.Field.{⊙-ring, ⊙-factor, ⊙-nonzero, one≢zero, inv, mul-inv, inv-unique, pow, pow-zero, pow-one}
+use Rattle.field.specs.Field.{pow-add, pow-mul, pow-⊙, power-255, power-inj, power-nonzero}
 use Rattle.series.specs.Series.{Series, O, K, _⊞_, _⊠_, ⊠-ring, ⊞-lc, at-zero, O-at, K-at0, ⊞-at, ⊠-at0, K-⊠-at, ⊠-zero}
 use Rattle.series.specs.Degree.{below, below-O, below-K, below-⊞, below-K-⊠}
 use Rattle.series.specs.Value.{value, value-none, value-last, value-more, value-⊞, value-K, value-K-⊠, value-shift}
@@ -77,7 +79,8 @@ here p = rw X-W (⊕-self 𝟏)
 elsewhere : (p q : ℕ) → p < 255 → q < 255 → p ≢ q → 𝟏 ⊕ X p ⊙ W q ≢ 𝟎
 elsewhere p q hp hq h z =
     let e : 𝟏 ≡ X p ⊙ W q = ⊕-equal _ _ z in
-    let f : X q ≡ X p = sym (⊙-one (X q)) ∙ ap (λ t. X q ⊙ t) e ∙ ⊙-left-comm _ _ _ ∙ ap (λ t. X p ⊙ t) (X-W q) ∙ ⊙-one (X p) in
+    let f : X q ≡ X p = sym (⊙-one (X q)) ∙ ap (λ t. X q ⊙ t) e ∙ ⊙-left-comm _ _ _
+    ∙ ap (λ t. X p ⊙ t) (X-W q) ∙ ⊙-one (X p) in
     h (power-inj p q hp hq (sym f))
 
 -- ---- locator and evaluator
@@ -110,12 +113,14 @@ evaluator-skip : (n : ℕ) (e : Series) → e n ≡ 𝟎 → evaluator (suc n) e
 unfolding evaluator
 evaluator-skip n e z = if-pos (e n ≟ 𝟎) z _ _
 
-evaluator-take : (n : ℕ) (e : Series) → e n ≢ 𝟎 → evaluator (suc n) e ≡ lin (X n) ⊠ evaluator n e ⊞ K (e n ⊙ lead n) ⊠ locator n e
+evaluator-take : (n : ℕ) (e : Series) → e n ≢ 𝟎
+    → evaluator (suc n) e ≡ lin (X n) ⊠ evaluator n e ⊞ K (e n ⊙ lead n) ⊠ locator n e
 unfolding evaluator
 evaluator-take n e z = if-neg (e n ≟ 𝟎) z _ _
 
 -- induction over the positions: one more is unchanged or changed
-along : (e : Series) (Q : ℕ → Type 0) → Q 0 → ((n : ℕ) → e n ≡ 𝟎 → Q n → Q (suc n)) → ((n : ℕ) → e n ≢ 𝟎 → Q n → Q (suc n)) → (n : ℕ) → Q n
+along : (e : Series) (Q : ℕ → Type 0)
+    → Q 0 → ((n : ℕ) → e n ≡ 𝟎 → Q n → Q (suc n)) → ((n : ℕ) → e n ≢ 𝟎 → Q n → Q (suc n)) → (n : ℕ) → Q n
 along e Q none skip take zero = none
 along e Q none skip take (suc n) =
     let ih : Q n = along e Q none skip take n in
@@ -156,7 +161,8 @@ syndrome-skip : (n : ℕ) (e : Series) → e n ≡ 𝟎 → syndrome (suc n) e �
 syndrome-skip n e z = fun-ext (λ j. rw (syndrome-is (suc n) e j, value-last, syndrome-is n e j, z) (simp ⊙-ring))
 
 syndrome-take : (n : ℕ) (e : Series) → syndrome (suc n) e ≡ syndrome n e ⊞ K (e n ⊙ lead n) ⊠ geo (X n)
-syndrome-take n e = fun-ext (λ j. rw (syndrome-is (suc n) e j, value-last, root-power j n, ⊞-at, K-⊠-at, syndrome-is n e j) (simp ⊙-ring))
+syndrome-take n e = fun-ext (λ j.
+    rw (syndrome-is (suc n) e j, value-last, root-power j n, ⊞-at, K-⊠-at, syndrome-is n e j) (simp ⊙-ring))
 
 pub key : (e : Series) (n : ℕ) → locator n e ⊠ syndrome n e ≡ evaluator n e
 key e = along e (λ n. locator n e ⊠ syndrome n e ≡ evaluator n e)
@@ -175,12 +181,15 @@ module _ (e : Series) (n k : ℕ) (x : F) (z : e n ≢ 𝟎) (h : weight (suc n)
   value-locator : value k (locator (suc n) e) x ≡ (𝟏 ⊕ X n ⊙ x) ⊙ value k (locator n e) x
   value-locator = rw (locator-take n e z) (value-lin-⊠ _ k (X n) _ x (below-locator e n) room)
 
-  value-evaluator : value k (evaluator (suc n) e) x ≡ (𝟏 ⊕ X n ⊙ x) ⊙ value k (evaluator n e) x ⊕ e n ⊙ lead n ⊙ value k (locator n e) x
+  value-evaluator : value k (evaluator (suc n) e) x
+      ≡ (𝟏 ⊕ X n ⊙ x) ⊙ value k (evaluator n e) x ⊕ e n ⊙ lead n ⊙ value k (locator n e) x
   value-evaluator =
       rw (evaluator-take n e z)
-      (value-⊞ k _ _ x ∙ ap₂ _⊕_ (value-lin-⊠ _ k (X n) _ x (below-evaluator e n) (omega (arith, room))) (value-K-⊠ k _ _ x))
+      (value-⊞ k _ _ x
+      ∙ ap₂ _⊕_ (value-lin-⊠ _ k (X n) _ x (below-evaluator e n) (omega (arith, room))) (value-K-⊠ k _ _ x))
 
-  value-odd : value k (odd (locator (suc n) e)) x ≡ (𝟏 ⊕ X n ⊙ x) ⊙ value k (odd (locator n e)) x ⊕ X n ⊙ x ⊙ value k (locator n e) x
+  value-odd : value k (odd (locator (suc n) e)) x
+      ≡ (𝟏 ⊕ X n ⊙ x) ⊙ value k (odd (locator n e)) x ⊕ X n ⊙ x ⊙ value k (locator n e) x
   value-odd =
       rw (locator-take n e z, odd-lin-⊠)
       (value-⊞ k _ _ x
@@ -204,7 +213,8 @@ module _ (e : Series) (q k : ℕ) (hq : q < 255) where
   pub locator-apart : (n : ℕ) → n ≤ 255 → (q < n → e q ≡ 𝟎) → weight n e < k → value k (locator n e) (W q) ≢ 𝟎
   locator-apart = along e (λ n. n ≤ 255 → (q < n → e q ≡ 𝟎) → weight n e < k → value k (locator n e) (W q) ≢ 𝟎)
       (λ b c h. let i : k ≡ suc (k - 1) = omega (arith, weight-none e) in rw (locator-none, i, value-K) one≢zero)
-      (λ n z ih b c h. rw (locator-skip n e z) (ih (omega arith) (λ l. c (omega arith)) (omega (arith, weight-skip n e z))))
+      (λ n z ih b c h.
+      rw (locator-skip n e z) (ih (omega arith) (λ l. c (omega arith)) (omega (arith, weight-skip n e z))))
       (λ n z ih b c h. rw (value-locator e n k (W q) z h) (⊙-nonzero _ _
       (elsewhere n q (omega arith) hq (λ i. z (ap e i ∙ c (omega arith))))
       (ih (omega arith) (λ l. c (omega arith)) (omega (arith, weight-take n e z)))))
@@ -223,20 +233,24 @@ module _ (e : Series) (q k : ℕ) (hq : q < 255) where
     zero-later : e q ≢ 𝟎 → q < n → value k (locator n e) (W q) ≡ 𝟎
     zero-later c l = locator-root n l c (omega (arith, weight-take n e z))
 
-    odd-later : e q ≢ 𝟎 → q < n → value k (odd (locator (suc n) e)) (W q) ≡ (𝟏 ⊕ X n ⊙ W q) ⊙ value k (odd (locator n e)) (W q)
+    odd-later : e q ≢ 𝟎 → q < n
+        → value k (odd (locator (suc n) e)) (W q) ≡ (𝟏 ⊕ X n ⊙ W q) ⊙ value k (odd (locator n e)) (W q)
     odd-later c l = value-odd e n k (W q) z h ∙ rw (zero-later c l) (simp ⊙-ring)
 
-    evaluator-later : e q ≢ 𝟎 → q < n → value k (evaluator (suc n) e) (W q) ≡ (𝟏 ⊕ X n ⊙ W q) ⊙ value k (evaluator n e) (W q)
+    evaluator-later : e q ≢ 𝟎 → q < n
+        → value k (evaluator (suc n) e) (W q) ≡ (𝟏 ⊕ X n ⊙ W q) ⊙ value k (evaluator n e) (W q)
     evaluator-later c l = value-evaluator e n k (W q) z h ∙ rw (zero-later c l) (simp ⊙-ring)
 
   -- Forney's formula: the odd part of the locator is not zero, and the evaluator over it is the change times lead q
   abbrev pub Forney : ℕ → Type 0
-  Forney n = (value k (odd (locator n e)) (W q) ≢ 𝟎) × (value k (evaluator n e) (W q) ≡ e q ⊙ lead q ⊙ value k (odd (locator n e)) (W q))
+  Forney n = (value k (odd (locator n e)) (W q) ≢ 𝟎)
+      × (value k (evaluator n e) (W q) ≡ e q ⊙ lead q ⊙ value k (odd (locator n e)) (W q))
 
   pub forney : (n : ℕ) → n ≤ 255 → q < n → e q ≢ 𝟎 → weight n e < k → Forney n
   forney n b l c = along e (λ n. n ≤ 255 → q < n → weight n e < k → Forney n)
       (λ b l h. absurd (omega arith))
-      (λ n z ih b l h. rw (locator-skip n e z, evaluator-skip n e z) (ih (omega arith) (earlier n c z l) (omega (arith, weight-skip n e z))))
+      (λ n z ih b l h. rw (locator-skip n e z, evaluator-skip n e z)
+      (ih (omega arith) (earlier n c z l) (omega (arith, weight-skip n e z))))
       (λ n z ih b l h. by-cases (ℕ-discrete q n)
       (λ i. (rw (odd-here n b z h i) (nonzero-here n b z h i), rw (odd-here n b z h i, evaluator-here n b z h i)))
       (λ i. later n b z h (omega arith) (ih (omega arith) (omega arith) (omega (arith, weight-take n e z)))))
@@ -272,16 +286,23 @@ over-root n p l f h m b r =
     ∙ ap (λ t. value (suc (suc l)) t (W p)) (sym e)
     ∙ r)
 
-pub few-roots : (e : Series) (n l : ℕ) (f : Series) → n ≤ 255 → below (suc l) f → f 0 ≢ 𝟎 → Vanishes e n l f → weight n e ≤ l
+pub few-roots : (e : Series) (n l : ℕ) (f : Series)
+    → n ≤ 255 → below (suc l) f → f 0 ≢ 𝟎 → Vanishes e n l f → weight n e ≤ l
 few-roots e = along e Few
     (λ l f h b c r. omega (arith, weight-none e))
     (λ n z ih l f h b c r. rw (weight-skip n e z) (ih l f (omega arith) b c (λ p m. r p (omega arith))))
-    (λ n z ih l f h b c r. rw (weight-take n e z) (fewer n ih l f h c r (divide-lin l (X n) (W n) f (X-W n) b (r n (omega arith) z))))
+    (λ n z ih l f h b c r.
+    rw (weight-take n e z) (fewer n ih l f h c r (divide-lin l (X n) (W n) f (X-W n) b (r n (omega arith) z))))
   where
     Few : ℕ → Type 0
     Few n = (l : ℕ) (f : Series) → n ≤ 255 → below (suc l) f → f 0 ≢ 𝟎 → Vanishes e n l f → weight n e ≤ l
 
-    fewer : (n : ℕ) → Few n → (l : ℕ) (f : Series) → suc n ≤ 255 → f 0 ≢ 𝟎 → Vanishes e (suc n) l f → below l (f ⊠ geo (X n)) → weight n e < l
+    fewer : (n : ℕ) → Few n → (l : ℕ) (f : Series)
+        → suc n ≤ 255 → f 0 ≢ 𝟎 → Vanishes e (suc n) l f → below l (f ⊠ geo (X n)) → weight n e < l
     fewer n ih zero f h c r b = absurd (c (sym (over-at0 n f) ∙ b 0 (omega arith)))
     fewer n ih (suc l) f h c r b =
-        omega (arith, ih l (f ⊠ geo (X n)) (omega arith) b (rw over-at0 c) (λ p m y. over-root n p l f (omega arith) m b (r p (omega arith) y)))
+        omega (
+          arith,
+          ih l (f ⊠ geo (X n)) (omega arith) b (rw over-at0 c)
+              (λ p m y. over-root n p l f (omega arith) m b (r p (omega arith) y)),
+        )

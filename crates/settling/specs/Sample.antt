@@ -29,7 +29,8 @@ same j e =
     syndrome-is 26 (zpow 25) j
     ∙ value-zpow 25 26 (root j) (omega arith)
     ∙ e
-    ∙ sym (syndrome-is 26 (K 𝟏 ⊞ zpow 1) j ∙ value-⊞ 26 _ _ (root j) ∙ ap₂ _⊕_ (value-K 25 𝟏 (root j)) (value-zpow 1 26 (root j) (omega arith)))
+    ∙ sym (syndrome-is 26 (K 𝟏 ⊞ zpow 1) j ∙ value-⊞ 26 _ _ (root j)
+    ∙ ap₂ _⊕_ (value-K 25 𝟏 (root j)) (value-zpow 1 26 (root j) (omega arith)))
 
 one : weight 26 (zpow 25) ≡ 1
 one =

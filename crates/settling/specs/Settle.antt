@@ -1,9 +1,10 @@
 -- Laws of settling.
 --
--- Proved: a word with k zero syndromes and at most k symbols that are not zero is zero (distance), so at most one pattern explains a row of
--- syndromes (explains-unique). What is settled explains (settle-some); nothing is settled where nothing explains (settle-never), and only there
--- (settle-none); a pattern that explains is what is settled (settle-one), so settling is to put a candidate to the test, if the candidate is right
--- wherever some pattern explains (settle-test). Only the first 2t syndromes count (settle-cong); a row of zeros is settled by the empty pattern
+-- Proved: a word with k zero syndromes and at most k symbols that are not zero is zero (distance), so at most one
+-- pattern explains a row of syndromes (explains-unique). What is settled explains (settle-some); nothing is settled
+-- where nothing explains (settle-never), and only there (settle-none); a pattern that explains is what is settled
+-- (settle-one), so settling is to put a candidate to the test, if the candidate is right wherever some pattern explains
+-- (settle-test). Only the first 2t syndromes count (settle-cong); a row of zeros is settled by the empty pattern
 -- (settle-zero).
 use Prim.Native.Nat.{ℕ, suc, _*_, _≤_, _<_}
 use mathlib.Core.Path.{_≡_, sym, ap, _∙_}
@@ -25,8 +26,10 @@ use Rattle.settling.specs.Locator.{W, locator, evaluator, key, below-eva
 
 -- ---- at most one pattern explains
 
-pub distance : (k n : ℕ) (e : Series) → n ≤ 255 → weight n e ≤ k → ((j : ℕ) → j < k → syndrome n e j ≡ 𝟎) → (p : ℕ) → p < n → e p ≡ 𝟎
-distance k n e hn hk zeros p l = by-cases (e p ≟ 𝟎) (λ z. z) (λ z. absurd (nonzero z (value-zero _ _ _ (λ i m. none-at i))))
+pub distance : (k n : ℕ) (e : Series) → n ≤ 255 → weight n e ≤ k → ((j : ℕ) → j < k → syndrome n e j ≡ 𝟎)
+    → (p : ℕ) → p < n → e p ≡ 𝟎
+distance k n e hn hk zeros p l =
+    by-cases (e p ≟ 𝟎) (λ z. z) (λ z. absurd (nonzero z (value-zero _ _ _ (λ i m. none-at i))))
   where
     nonzero : e p ≢ 𝟎 → value (suc (weight n e)) (evaluator n e) (W p) ≢ 𝟎
     nonzero z = evaluator-nonzero e p (suc (weight n e)) (omega arith) n hn l z (omega arith)
@@ -38,7 +41,8 @@ distance k n e hn hk zeros p l = by-cases (e p ≟ 𝟎) (λ z. z) (λ z. absurd
         ∙ ap (λ f. f i) (⊠-zero (locator n e))
         ∙ O-at i)
 
-pub explains-unique : (t n : ℕ) (s e f : Series) → n ≤ 255 → Explains t n s e → Explains t n s f → (p : ℕ) → p < n → e p ≡ f p
+pub explains-unique : (t n : ℕ) (s e f : Series)
+    → n ≤ 255 → Explains t n s e → Explains t n s f → (p : ℕ) → p < n → e p ≡ f p
 unfolding _⊞_
 explains-unique t n s e f hn x y p l =
     ⊕-equal _ _ (distance (2 * t) n (e ⊞ f) hn (omega (arith, weight-⊕ n e f, x .within, y .within))
@@ -62,7 +66,8 @@ explains-row t n s u e h x = record { within = x .within; syndromes = λ j l. x 
 
 -- ---- what settles
 
-pub settle-some : (t n : ℕ) (s : Series) (w : List F) → settle t n s ≡ some w → (length w ≡ n) × Explains t n s (entry w)
+pub settle-some : (t n : ℕ) (s : Series) (w : List F) → settle t n s ≡ some w
+    → (length w ≡ n) × Explains t n s (entry w)
 unfolding settle
 settle-some t n s w e = first-some n _ w e
 
@@ -78,7 +83,8 @@ pub settle-one : (t n : ℕ) (s e : Series) → n ≤ 255 → Explains t n s e �
 unfolding settle
 settle-one t n s e hn x =
     let y : Explains t n s (entry (word n e)) = explains-word t n s e x in
-    first-one n _ (word n e) (length-word n e) y (λ v l z. word-ext n v _ l (length-word n e) (explains-unique t n s _ _ hn z y))
+    first-one n _ (word n e) (length-word n e) y
+    (λ v l z. word-ext n v _ l (length-word n e) (explains-unique t n s _ _ hn z y))
 
 pub settle-test : (t n : ℕ) (s f : Series) → n ≤ 255 → ((e : Series) → Explains t n s e → (p : ℕ) → p < n → f p ≡ e p)
     → settle t n s ≡ ite (explains? t n s f) (some (word n f)) none

@@ -1,10 +1,11 @@
 -- What the key-equation solver finds where a pattern explains the syndromes: its locator and its evaluator.
 --
---   Found S r n e   after r iterations over S, with Λ_0 the constant term of Λ, which is not zero: Λ is Λ_0 times the locator of the pattern e, its
---                   numerator P is Λ_0 times the evaluator of e, and the length is the number of changes
+--   Found S r n e   after r iterations over S, with Λ_0 the constant term of Λ, which is not zero: Λ is Λ_0 times the
+--                   locator of the pattern e, its numerator P is Λ_0 times the evaluator of e, and the length is the
+--                   number of changes
 --
--- Proved: e is found if its syndromes below r are those of S and it has at most r/2 changes (found); so a pattern that explains S is found after 2t
--- iterations (explained).
+-- Proved: e is found if its syndromes below r are those of S and it has at most r/2 changes (found); so a pattern that
+-- explains S is found after 2t iterations (explained).
 use Prim.Native.Nat.{ℕ, suc, _+_, _-_, _*_, _≤_, _<_}
 use mathlib.Core.Path.{_≡_, sym, ap, _∙_, fun-ext}
 use mathlib.Core.Logic.{_≢_}
@@ -30,7 +31,8 @@ pub record Found (S : Series) (r n : ℕ) (e : Series) : Type 0 where
 K-cancel : (a : F) (f g : Series) → a ≢ 𝟎 → K a ⊠ f ≡ K a ⊠ g → f ≡ g
 K-cancel a f g h e = fun-ext (λ i. ⊙-cancel a h (sym (K-⊠-at a f i) ∙ ap (λ t. t i) e ∙ K-⊠-at a g i))
 
-module _ (n r : ℕ) (S e : Series) (hn : n ≤ 255) (few : 2 * weight n e ≤ r) (agrees : (j : ℕ) → j < r → syndrome n e j ≡ S j) where
+module _ (n r : ℕ) (S e : Series) (hn : n ≤ 255) (few : 2 * weight n e ≤ r)
+    (agrees : (j : ℕ) → j < r → syndrome n e j ≡ S j) where
   abbrev m : Plain.State
   m = measure S r
 
@@ -45,13 +47,15 @@ module _ (n r : ℕ) (S e : Series) (hn : n ≤ 255) (few : 2 * weight n e ≤ r
     σ0≢0 = rw locator-at0 one≢zero;
     below-σ = below-locator e n;
     below-ω = below-evaluator e n;
-    agree = λ i l. ⊠-agree (locator n e) S (syndrome n e) i (λ j h. sym (agrees j (omega arith))) ∙ ap (λ f. f i) (key e n);
+    agree =
+        λ i l. ⊠-agree (locator n e) S (syndrome n e) i (λ j h. sym (agrees j (omega arith))) ∙ ap (λ f. f i) (key e n);
   }
 
   least : L ≤ weight n e
   least = shortest S r _ _ _ solves
 
-  multiple : (b : Series) × below (suc (weight n e - L)) b × (K (c S r) ⊠ locator n e ≡ m .Λ ⊠ b) × (K (c S r) ⊠ evaluator n e ≡ v .P ⊠ b)
+  multiple : (b : Series) × below (suc (weight n e - L)) b × (K (c S r) ⊠ locator n e ≡ m .Λ ⊠ b)
+      × (K (c S r) ⊠ evaluator n e ≡ v .P ⊠ b)
   multiple = unique S r _ _ _ solves (omega (arith, least))
 
   -- Λ times the evaluator is P times the locator
@@ -61,14 +65,18 @@ module _ (n r : ℕ) (S e : Series) (hn : n ≤ 255) (few : 2 * weight n e ≤ r
   -- so Λ vanishes where the locator does: the evaluator does not
   vanishes : Vanishes e n L (m .Λ)
   vanishes p l z =
-      let nonzero : value (suc (weight n e)) (evaluator n e) (W p) ≢ 𝟎 = evaluator-nonzero e p _ (omega arith) n hn l z (omega arith) in
-      let root : value (suc (weight n e)) (locator n e) (W p) ≡ 𝟎 = locator-root e p _ (omega arith) n l z (omega arith) in
+      let nonzero : value (suc (weight n e)) (evaluator n e) (W p) ≢ 𝟎 =
+      evaluator-nonzero e p _ (omega arith) n hn l z (omega arith) in
+      let root : value (suc (weight n e)) (locator n e) (W p) ≡ 𝟎 =
+      locator-root e p _ (omega arith) n l z (omega arith) in
       ⊙-factor _ _ nonzero (⊙-factor _ _ (c≢0 S r)
-      (ap (λ t. c S r ⊙ t) (sym (value-⊠ _ _ k _ _ (W p) (below-weaken _ _ _ (below-evaluator e n) (omega arith)) (v .below-Λ) (omega arith)))
+      (ap (λ t. c S r ⊙ t) (sym (value-⊠ _ _ k _ _ (W p) (below-weaken _ _ _ (below-evaluator e n) (omega arith))
+      (v .below-Λ) (omega arith)))
       ∙ sym (value-K-⊠ k (c S r) _ (W p))
       ∙ ap (λ t. value k t (W p)) crossed
       ∙ value-K-⊠ k (c S r) _ (W p)
-      ∙ ap (λ t. c S r ⊙ t) (value-⊠ _ _ k _ _ (W p) (below-locator e n) (v .below-P) (omega arith) ∙ rw root (zero-⊙ _))
+      ∙ ap (λ t. c S r ⊙ t)
+      (value-⊠ _ _ k _ _ (W p) (below-locator e n) (v .below-P) (omega arith) ∙ rw root (zero-⊙ _))
       ∙ ⊙-zero _))
     where
       k : ℕ

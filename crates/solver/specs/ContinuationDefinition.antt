@@ -1,7 +1,8 @@
 -- A solver at the end of a list of rounds.
 --
 --   Ended f rounds s          s is a solver in the form f, at the end of the run over the rounds
---   Next rounds round u v S   the rounds are syndromes 0 to u − 1 of S, the round after them u to v − 1; S is zero from v on, and v is at most 48
+--   Next rounds round u v S   the rounds are syndromes 0 to u − 1 of S, the round after them u to v − 1; S is zero from
+--                             v on, and v is at most 48
 --   Advanced u v S s p        p is the solver s, taken through such a round
 --
 -- Proved: a solver at its start is at the end of no rounds (ended-start).
@@ -30,7 +31,8 @@ pub record Next (rounds : List (List F)) (round : List F) (u v : ℕ) (S : Serie
 
 abbrev pub Advanced : (u v : ℕ) → Series → (s p : Solver) → Type 0
 Advanced u v S s p =
-    (f : Form) (rounds : List (List F)) (round : List F) → Next rounds round u v S → Ended f rounds s → Ended f (rounds ++ (round ∷ [])) p
+    (f : Form) (rounds : List (List F)) (round : List F) → Next rounds round u v S → Ended f rounds s
+    → Ended f (rounds ++ (round ∷ [])) p
 
 pub ended-start : (f : Form) (s : Solver) → Is f 0 s (form-of f .start) → Ended f [] s
 unfolding Ended joined finish events after

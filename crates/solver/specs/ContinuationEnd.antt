@@ -56,13 +56,15 @@ module _ (rounds : List (List F)) where
         ∙ measure-agree n (entry (word n S)) S (entry-word n S)
 
     module _ (f : Form) (s : Solver) (ended : Ended f rounds s) where
-      pub ended-locator : (l : Series) → ((r : ℕ) (f : Form) (m : form-of f .State) → Is f r s m → l ≡ Λ-in f m) → Multiple l (measure S n .Λ)
+      pub ended-locator : (l : Series) → ((r : ℕ) (f : Form) (m : form-of f .State) → Is f r s m → l ≡ Λ-in f m)
+          → Multiple l (measure S n .Λ)
       unfolding Ended
       ended-locator l is =
           let (a, a≢0, e) = Λ-end f in
           (a, a≢0, is _ f _ ended ∙ e ∙ ap (λ m. K a ⊠ m .Λ) m-is)
 
-      pub ended-length : (l : ℕ) → ((r : ℕ) (f : Form) (m : form-of f .State) → Is f r s m → k-of r l ≡ k-in f m) → l ≡ Shortest.length S n
+      pub ended-length : (l : ℕ) → ((r : ℕ) (f : Form) (m : form-of f .State) → Is f r s m → k-of r l ≡ k-in f m)
+          → l ≡ Shortest.length S n
       unfolding Ended
       ended-length l is = ap mag (sym (len-of r l) ∙ ap (len r) (is r f _ ended ∙ k-end f) ∙ long)
         where

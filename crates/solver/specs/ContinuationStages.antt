@@ -1,8 +1,9 @@
 -- The stages of a subword, taken as rounds of its row: a solver that is taken through round after round.
 --
--- Proved, for a valid profile: a solver at its start, taken through the first round, is at the end of stage 0 (stage-first); one at the end of
--- stage r, taken through the next round, is at the end of stage r + 1 (stage-next). What it has found there, `locator` promises and End has, n being
--- 2 t_r: the rounds are the row below that (rounds-joined of staged_decoding).
+-- Proved, for a valid profile: a solver at its start, taken through the first round, is at the end of stage 0
+-- (stage-first); one at the end of stage r, taken through the next round, is at the end of stage r + 1 (stage-next).
+-- What it has found there, `locator` promises and End has, n being 2 t_r: the rounds are the row below that
+-- (rounds-joined of staged_decoding).
 use Prim.Native.Nat.{ℕ, suc, _*_, _<_}
 use mathlib.Core.Path.{refl, subst}
 use mathlib.Core.List.{[]}
@@ -23,7 +24,8 @@ use Rattle.solver.specs.Solver.{form-of, Is}
 use Rattle.solver.specs.ContinuationDefinition.{Ended, Next, Advanced, ended-start}
 
 module _ (p : Profile) (ok : Valid p) (f : Form) (S : Series) (s q : Solver) where
-  pub stage-first : below (2 * capability p 0) S → Is f 0 s (form-of f .start) → Advanced 0 (2 * capability p 0) S s q → Ended f (rounds-of p S 0) q
+  pub stage-first : below (2 * capability p 0) S → Is f 0 s (form-of f .start) → Advanced 0 (2 * capability p 0) S s q
+      → Ended f (rounds-of p S 0) q
   unfolding rounds-of joined word
   stage-first past h advanced = advanced f [] (round-of p S 0) next (ended-start f s h)
     where
@@ -36,11 +38,14 @@ module _ (p : Profile) (ok : Valid p) (f : Form) (S : Series) (s q : Solver) whe
       }
 
   -- T is the row as it was
-  pub stage-next : (r : ℕ) (T : Series) → r < p .nested → below (2 * capability p (suc r)) S → Agree (2 * capability p r) T S
-      → Ended f (rounds-of p T r) s → Advanced (2 * capability p r) (2 * capability p (suc r)) S s q → Ended f (rounds-of p S (suc r)) q
+  pub stage-next : (r : ℕ) (T : Series) → r < p .nested → below (2 * capability p (suc r)) S
+      → Agree (2 * capability p r) T S
+      → Ended f (rounds-of p T r) s → Advanced (2 * capability p r) (2 * capability p (suc r)) S s q
+      → Ended f (rounds-of p S (suc r)) q
   unfolding rounds-of
   stage-next r T h past agree ended advanced =
-      advanced f (rounds-of p S r) (round-of p S (suc r)) next (subst (λ rounds. Ended f rounds s) (rounds-cong p ok T S r (omega arith) agree) ended)
+      advanced f (rounds-of p S r) (round-of p S (suc r)) next
+      (subst (λ rounds. Ended f rounds s) (rounds-cong p ok T S r (omega arith) agree) ended)
     where
       next : Next (rounds-of p S r) (round-of p S (suc r)) (2 * capability p r) (2 * capability p (suc r)) S
       next = record {

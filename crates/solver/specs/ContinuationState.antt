@@ -3,8 +3,8 @@
 --   state f r S       the state of the form f after r iterations over S, the syndromes so far
 --   Reached f r S s   s is a solver in the form f in this state
 --
--- Proved: from the end of the rounds before, the entry of a round reaches this state (reached-enter), its iterations lead to the last one
--- (reached-run), and that is the round's end (reached-end).
+-- Proved: from the end of the rounds before, the entry of a round reaches this state (reached-enter), its iterations
+-- lead to the last one (reached-run), and that is the round's end (reached-end).
 use Prim.Native.Nat.{ℕ, zero, suc, _+_, _-_, _≤_}
 use mathlib.Core.Path.{_≡_, refl, sym, ap, ap₂, _∙_, subst}
 use mathlib.Core.List.{List, [], _∷_, _++_, append-nil}
@@ -15,7 +15,8 @@ use Rattle.series.specs.Series.{Series}
 use Rattle.series.specs.Degree.{below, below-cut-eq}
 use Rattle.series.specs.Word.{entry, word, length-word, entry-word, entry-past, word-cut}
 use Rattle.key_equation.specs.Plain as Plain
-use Rattle.key_equation.specs.Run.{Factors, iteration, joined, events, count, entered, iterations, so-far, measure, factors}
+use Rattle.key_equation.specs.Run.{Factors, iteration, joined, events, count, entered}
+use Rattle.key_equation.specs.Run.{iterations, so-far, measure, factors}
 use Rattle.key_equation.specs.Claim.{lookahead-is, scaled-is}
 use Rattle.key_equation.specs.Ahead.{Agree}
 use Rattle.key_equation.specs.Measure.{measure-γ, factors-nonzero, measure-agree, factors-agree}
@@ -43,14 +44,17 @@ keeps Scaled = scaled-keeps
 unfoldable pub state : (f : Form) → ℕ → Series → form-of f .State
 state f r S = want f r S (measure S r) (factors S r)
 
-state-finish : (f : Form) (rounds : List (List F)) → finish (form-of f) rounds .state ≡ state f (length (joined rounds)) (entry (joined rounds))
+state-finish : (f : Form) (rounds : List (List F))
+    → finish (form-of f) rounds .state ≡ state f (length (joined rounds)) (entry (joined rounds))
 unfolding state
 state-finish f rounds = ap (λ p. p .state) (finish-is (form-of f) (want f) (keeps f) rounds)
 
-state-enter : (f : Form) (u : ℕ) (S J : Series) → Agree u S J → S u ≡ 𝟎 → form-of f .enter u J (state f u S) ≡ state f u J
+state-enter : (f : Form) (u : ℕ) (S J : Series) → Agree u S J → S u ≡ 𝟎
+    → form-of f .enter u J (state f u S) ≡ state f u J
 unfolding state
 state-enter f u S J h z =
-    keeps f .enters u S J (measure S u) (factors S u) h z ∙ ap₂ (want f u J) (measure-agree u S J h) (factors-agree u S J h)
+    keeps f .enters u S J (measure S u) (factors S u) h z
+    ∙ ap₂ (want f u J) (measure-agree u S J h) (factors-agree u S J h)
 
 state-iterate : (f : Form) (r : ℕ) (S : Series) → form-of f .iterate r S (state f r S) ≡ state f (suc r) S
 unfolding state measure factors Plain.iterate
@@ -72,7 +76,8 @@ entered-of (suc r) zero = refl
 entered-of (suc r) (suc n) = entered-of r n
 
 -- S is the one round J
-state-whole : (f : Form) (J : List F) (r : ℕ) → r ≤ length J → length J ≤ 48 → clip f (state f r (entry J)) ≡ state f r (entry J)
+state-whole : (f : Form) (J : List F) (r : ℕ) → r ≤ length J → length J ≤ 48
+    → clip f (state f r (entry J)) ≡ state f r (entry J)
 unfolding state iterations so-far events count entered joined
 state-whole f J r h few =
     subst (λ m. clip f m ≡ m)
@@ -95,7 +100,8 @@ module _ (f : Form) (rounds : List (List F)) (n : ℕ) (S : Series) (are : joine
   long = ap length are ∙ length-word n S
 
   end : finish (form-of f) rounds .state ≡ state f n (entry (word n S))
-  end = state-finish f rounds ∙ ap (λ J. state f (length J) (entry J)) are ∙ ap (λ k. state f k (entry (word n S))) (length-word n S)
+  end = state-finish f rounds ∙ ap (λ J. state f (length J) (entry J)) are
+      ∙ ap (λ k. state f k (entry (word n S))) (length-word n S)
 
   ended-reached : Ended f rounds s → Reached f n (entry (word n S)) s
   unfolding Ended
@@ -122,7 +128,8 @@ module _ (rounds : List (List F)) (round : List F) (u v : ℕ) (S : Series) (nex
       )
 
   module _ (f : Form) (p : Solver) where
-    pub reached-enter : (s : Solver) → ((f : Form) (m : form-of f .State) → Is f u s m → Is f u p (form-of f .enter u S m))
+    pub reached-enter : (s : Solver)
+        → ((f : Form) (m : form-of f .State) → Is f u s m → Is f u p (form-of f .enter u S m))
         → Ended f rounds s → Reached f u S p
     reached-enter s enters h = (goes .0, goes .1 ∙ state-enter f u known S (entry-word u S) none)
       where
@@ -141,16 +148,20 @@ module _ (rounds : List (List F)) (round : List F) (u v : ℕ) (S : Series) (nex
     iterated-state zero h = let e : u ≡ u + 0 = omega arith in ap (λ n. state f n S) e
     iterated-state (suc n) h =
         let e : suc (u + n) ≡ u + suc n = omega arith in
-        ap (iterate-clipped f S (u + n)) (iterated-state n (omega arith)) ∙ ap (clip f) (state-iterate f (u + n) S) ∙ whole ∙ ap (λ n. state f n S) e
+        ap (iterate-clipped f S (u + n)) (iterated-state n (omega arith)) ∙ ap (clip f) (state-iterate f (u + n) S)
+        ∙ whole ∙ ap (λ n. state f n S) e
       where
         whole : clip f (state f (suc (u + n)) S) ≡ state f (suc (u + n)) S
         whole =
             subst (λ S. clip f (state f (suc (u + n)) S) ≡ state f (suc (u + n)) S) (entry-whole v S (next .past))
-            (state-whole f (word v S) (suc (u + n)) (omega (arith, length-word v S)) (omega (arith, length-word v S, next .few)))
+            (state-whole f (word v S) (suc (u + n)) (omega (arith, length-word v S))
+            (omega (arith, length-word v S, next .few)))
 
-    pub reached-run : (s : Solver) → ((f : Form) (m : form-of f .State) → Is f u s m → Is f (u + (v - u)) p (iterated (iterate-clipped f S) u (v - u) m))
+    pub reached-run : (s : Solver) → ((f : Form) (m : form-of f .State) → Is f u s m
+        → Is f (u + (v - u)) p (iterated (iterate-clipped f S) u (v - u) m))
         → Reached f u S s → Reached f v S p
-    reached-run s runs h = subst (λ n. Reached f n S p) at (goes .0, goes .1 ∙ iterated-state (v - u) (omega (arith, next-rising)))
+    reached-run s runs h =
+        subst (λ n. Reached f n S p) at (goes .0, goes .1 ∙ iterated-state (v - u) (omega (arith, next-rising)))
       where
         at : u + (v - u) ≡ v
         at = omega (arith, next-rising)
@@ -159,4 +170,5 @@ module _ (rounds : List (List F)) (round : List F) (u v : ℕ) (S : Series) (nex
         goes = runs f _ h
 
     pub reached-end : Reached f v S p → Ended f (rounds ++ (round ∷ [])) p
-    reached-end h = reached-ended f _ v S (next .to) p (h .0, h .1 ∙ ap (state f v) (sym (entry-whole v S (next .past))))
+    reached-end h =
+        reached-ended f _ v S (next .to) p (h .0, h .1 ∙ ap (state f v) (sym (entry-whole v S (next .past))))

@@ -15,7 +15,8 @@ pub mod ScaledStep
 pub mod Rounds
 pub mod RoundsRun
 pub mod RoundsEvent
--- continuation: ContinuationDefinition is what the promises speak of; ContinuationState and ContinuationEnd prove them. A caller cites ContinuationEnd for the length, and ContinuationStages for the stages of a subword.
+-- continuation: ContinuationDefinition is what the promises speak of; ContinuationState and ContinuationEnd prove them.
+-- A caller cites ContinuationEnd for the length, and ContinuationStages for the stages of a subword.
 pub mod ContinuationDefinition
 pub mod ContinuationState
 pub mod ContinuationEnd

@@ -1,6 +1,7 @@
 -- An iteration of the lookahead form, from what its lines compute.
 --
---   stepped r S s B γ k Θ θS   s after iteration r, in 49 coefficients: what a swap and a hold share, with the new B, γ, k, Θ and θ_S
+--   stepped r S s B γ k Θ θS   s after iteration r, in 49 coefficients: what a swap and a hold share, with the new B,
+--                              γ, k, Θ and θ_S
 --
 -- Proved: cut 49 passes through the sums Δ and Θ of the next iteration; the code's test for a swap is the definition's.
 use Prim.Native.Nat.{ℕ, _+_}
@@ -40,11 +41,13 @@ stepped r S s B γ k Θ θS = record {
 
 module _ (s : State) (l : below 49 (s .Λ)) (d : below 49 (s .Δ)) where
   pub cut-Δ : below 49 (s .Θ)
-      → K (s .γ) ⊠ tail (s .Δ) ⊞ K (s .γS) ⊠ s .Λ ⊞ (K (s .Δ 0) ⊠ s .Θ ⊞ K (s .δS) ⊠ cut 49 (Z ⊠ s .B)) ≡ cut 49 (next-Δ s)
+      → K (s .γ) ⊠ tail (s .Δ) ⊞ K (s .γS) ⊠ s .Λ ⊞ (K (s .Δ 0) ⊠ s .Θ ⊞ K (s .δS) ⊠ cut 49 (Z ⊠ s .B))
+      ≡ cut 49 (next-Δ s)
   cut-Δ t =
       sym (⊞-assoc _ _ _)
       ∙ cut-add (s .δS) _ _
-      (below-⊞ 49 _ _ (below-⊞ 49 _ _ (below-K-⊠ 49 _ _ (below-tail-weak 49 _ d)) (below-K-⊠ 49 _ _ l)) (below-K-⊠ 49 _ _ t))
+      (below-⊞ 49 _ _
+      (below-⊞ 49 _ _ (below-K-⊠ 49 _ _ (below-tail-weak 49 _ d)) (below-K-⊠ 49 _ _ l)) (below-K-⊠ 49 _ _ t))
 
   pub cut-swap-Θ : (a : F) → tail (s .Δ) ⊞ K a ⊠ s .Λ ≡ cut 49 (tail (s .Δ) ⊞ K a ⊠ s .Λ)
   cut-swap-Θ a = sym (below-cut-eq 49 _ (below-⊞ 49 _ _ (below-tail-weak 49 _ d) (below-K-⊠ 49 _ _ l)))
@@ -53,6 +56,7 @@ module _ (s : State) (l : below 49 (s .Λ)) (d : below 49 (s .Δ)) where
 
 -- δ is the first entry of Δ
 pub swapping-is : (r : ℕ) (p : Lookahead)
-    → swaps (lookahead r p .Δ 0) (lookahead r p .k) ≡ swaps (val (getD (p .delta) 0 (record { 0 = 0 }))) (k-of r (p .length))
+    → swaps (lookahead r p .Δ 0) (lookahead r p .k)
+    ≡ swaps (val (getD (p .delta) 0 (record { 0 = 0 }))) (k-of r (p .length))
 unfolding lookahead
 swapping-is r p = ap (λ d. swaps d (k-of r (p .length))) (poly-at (p .delta) 0 (omega arith))

@@ -14,7 +14,8 @@ use Rattle.key_equation.specs.Shared.{swaps, k-swap, k-hold}
 use Rattle.key_equation.specs.Plain as Plain
 use Rattle.solver.specs.PlainView.{clip-plain}
 
-module _ (r : ℕ) (S : Series) (m : Plain.State) (d : F) (zB next : Series) (k : ℤ) (h : below 49 (m .Λ)) (d-is : d ≡ Plain.δ r S m)
+module _ (r : ℕ) (S : Series) (m : Plain.State) (d : F) (zB next : Series) (k : ℤ) (h : below 49 (m .Λ))
+    (d-is : d ≡ Plain.δ r S m)
     (zB-is : zB ≡ cut 49 (Z ⊠ m .B)) (next-is : next ≡ K (m .γ) ⊠ m .Λ ⊞ K d ⊠ zB) where
   update-is : next ≡ cut 49 (Plain.update d m)
   update-is = next-is ∙ rw zB-is (cut-update _ _ _ _ h)
@@ -22,7 +23,8 @@ module _ (r : ℕ) (S : Series) (m : Plain.State) (d : F) (zB next : Series) (k 
   pub plain-swap : swaps d (m .k) ≡ true → k ≡ k-swap (m .k)
       → _≡_ {A = Plain.State} (record { Λ = next; B = m .Λ; γ = d; k = k }) (clip-plain (Plain.iterate r S m))
   unfolding Plain.iterate clip-plain
-  plain-swap t e = rw (← d-is, t) (λ i. record { Λ = update-is i; B = sym (below-cut-eq 49 (m .Λ) h) i; γ = d; k = e i })
+  plain-swap t e =
+      rw (← d-is, t) (λ i. record { Λ = update-is i; B = sym (below-cut-eq 49 (m .Λ) h) i; γ = d; k = e i })
 
   pub plain-hold : swaps d (m .k) ≡ false → k ≡ k-hold (m .k)
       → _≡_ {A = Plain.State} (record { Λ = next; B = zB; γ = m .γ; k = k }) (clip-plain (Plain.iterate r S m))

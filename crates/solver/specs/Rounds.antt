@@ -1,9 +1,11 @@
 -- Runs as the code goes through them: rounds cut from a list of syndromes, and where the walk is.
 --
 --   cut-rounds s ns        the rounds of lengths ns, cut from s one after the other; a round takes what is left
---   Here f s ns n p k i    after n events of the run over these rounds it is at p; i rounds have been entered, with k syndromes
+--   Here f s ns n p k i    after n events of the run over these rounds it is at p; i rounds have been entered, with
+--                          k syndromes
 --
--- Proved: every list of rounds is cut from its joined syndromes (cut-joined); the walk's start, an iteration, an entry, and its two ends.
+-- Proved: every list of rounds is cut from its joined syndromes (cut-joined); the walk's start, an iteration, an entry,
+-- and its two ends.
 use Prim.Native.Nat.{ℕ, suc, _+_, _-_, _≤_, _<_, min}
 use mathlib.Core.Path.{_≡_, refl, sym, ap, ap₂, _∙_}
 use mathlib.Core.List.{List, [], _∷_, _++_, map, append-assoc, append-nil}
@@ -11,7 +13,8 @@ use native.Mathlib.Decide.{decLe}
 use native.Mathlib.Nat.{min-eq-left, min-eq-right, min-le-right}
 use native.Mathlib.Numerals.{add-one}
 use native.Mathlib.Omega.{arith}
-use lib.ListN.{length, getD, take, drop, replicate, length-append, length-take, length-drop, take-append-drop, drop-of-length-le}
+use lib.ListN.{length, getD, take, drop, replicate, length-append, length-take, length-drop}
+use lib.ListN.{take-append-drop, drop-of-length-le}
 use lib.Seq.{take-at, drop-at, take-all, take-length, drop-length, drop-cons, take-add, drop-drop}
 use Rattle.field.specs.Field.{F}
 use Rattle.key_equation.specs.Run.{Form, At, Event, entering, iteration, joined, events, outset, happen, after, run}
@@ -38,7 +41,8 @@ unfolding cut-rounds joined
 cut-joined [] = refl
 cut-joined (round ∷ rest) =
     ap₂ _∷_ (take-at round (joined rest) (length round) refl)
-    (ap (λ (s : List F). cut-rounds s (map length rest)) (drop-at round (joined rest) (length round) refl) ∙ cut-joined rest)
+    (ap (λ (s : List F). cut-rounds s (map length rest)) (drop-at round (joined rest) (length round) refl)
+    ∙ cut-joined rest)
 
 pub record Here (f : Form) (s : List F) (ns : List ℕ) (n : ℕ) (p : At f) (known : ℕ) (i : ℕ) : Type 0 where
   pub done : List Event
@@ -47,7 +51,8 @@ pub record Here (f : Form) (s : List F) (ns : List ℕ) (n : ℕ) (p : At f) (kn
   pub known-is : p .known ≡ take known s
   pub fits : known ≤ length s
   pub left : p .r ≤ known
-  pub ahead : events (cut-rounds s ns) ≡ done ++ (replicate (known - p .r) iteration ++ events (cut-rounds (drop known s) (drop i ns)))
+  pub ahead : events (cut-rounds s ns)
+      ≡ done ++ (replicate (known - p .r) iteration ++ events (cut-rounds (drop known s) (drop i ns)))
 
 -- counts past the end
 take-min : (n : ℕ) (s : List F) → take n s ≡ take (min n (length s)) s
@@ -80,7 +85,8 @@ module _ (f : Form) (s : List F) (ns : List ℕ) where
   -- the run after n events is where the walk is
   pub here-run : (n : ℕ) (p : At f) (known i : ℕ) → Here f s ns n p known i → run f (cut-rounds s ns) n ≡ p
   unfolding run
-  here-run n p known i h = ap (λ (es : List Event). after f es (outset f)) (ap (take n) (h .ahead) ∙ take-at (h .done) _ n (h .count)) ∙ h .at
+  here-run n p known i h = ap (λ (es : List Event). after f es (outset f))
+      (ap (take n) (h .ahead) ∙ take-at (h .done) _ n (h .count)) ∙ h .at
 
   -- an event more
   step : (n : ℕ) (p : At f) (known i : ℕ) (h : Here f s ns n p known i) (e : Event)
@@ -91,7 +97,8 @@ module _ (f : Form) (s : List F) (ns : List ℕ) where
     after-append f (h .done) (e ∷ []) (outset f) ∙ ap (happen f e) (h .at),
   )
 
-  pub here-iterate : (n : ℕ) (p : At f) (known i : ℕ) (h : Here f s ns n p known i) → p .r < known → Here f s ns (n + 1) (happen f iteration p) known i
+  pub here-iterate : (n : ℕ) (p : At f) (known i : ℕ) (h : Here f s ns n p known i) → p .r < known
+      → Here f s ns (n + 1) (happen f iteration p) known i
   here-iterate n p known i h l =
       let m : ℕ = known - suc (p .r) in
       let e : known - p .r ≡ suc m = omega arith in
@@ -108,21 +115,26 @@ module _ (f : Form) (s : List F) (ns : List ℕ) where
       }
 
   pub here-enter : (n : ℕ) (p : At f) (known i : ℕ) (h : Here f s ns n p known i) → p .r ≡ known → i < length ns
-      → Here f s ns (n + 1) (happen f (entering (take (getD ns i 0) (drop known s))) p) (min (known + getD ns i 0) (length s)) (i + 1)
+      → Here f s ns (n + 1) (happen f (entering (take (getD ns i 0) (drop known s))) p)
+      (min (known + getD ns i 0) (length s)) (i + 1)
   unfolding cut-rounds events
   here-enter n p known i h e l =
       let k : ℕ = getD ns i 0 in
       let next : ℕ = min (known + k) (length s) in
       let round : List F = take k (drop known s) in
-      let known-is : p .known ++ round ≡ take next s = ap (λ (t : List F). t ++ round) (h .known-is) ∙ sym (take-add known k s) ∙ take-min _ s in
+      let known-is : p .known ++ round ≡ take next s = ap (λ (t : List F). t ++ round) (h .known-is)
+      ∙ sym (take-add known k s) ∙ take-min _ s in
       let long : length round ≡ next - p .r = simp (length-take, length-drop) (omega arith) in
-      let rest : List Event = replicate (next - p .r) iteration ++ events (cut-rounds (drop next s) (drop (i + 1) ns)) in
+      let rest : List Event =
+      replicate (next - p .r) iteration ++ events (cut-rounds (drop next s) (drop (i + 1) ns)) in
       let now : known - p .r ≡ 0 = omega arith in
       let opened : events (cut-rounds (drop known s) (drop i ns)) ≡ entering round ∷ rest =
       ap (λ (l : List ℕ). events (cut-rounds (drop known s) l)) (drop-cons ns i 0 l)
-      ∙ ap₂ (λ (m : ℕ) (t : List F). entering round ∷ (replicate m iteration ++ events (cut-rounds t (drop (suc i) ns)))) long
+      ∙ ap₂ (λ (m : ℕ) (t : List F).
+      entering round ∷ (replicate m iteration ++ events (cut-rounds t (drop (suc i) ns)))) long
       (drop-drop k known s ∙ drop-min (known + k) s)
-      ∙ ap (λ (m : ℕ). entering round ∷ (replicate (next - p .r) iteration ++ events (cut-rounds (drop next s) (drop m ns)))) (sym (add-one i)) in
+      ∙ ap (λ (m : ℕ). entering round
+      ∷ (replicate (next - p .r) iteration ++ events (cut-rounds (drop next s) (drop m ns)))) (sym (add-one i)) in
       let more = step n p known i h (entering round) in
       record {
         done = h .done ++ (entering round ∷ []);
@@ -146,6 +158,8 @@ module _ (f : Form) (s : List F) (ns : List ℕ) where
       let none : events (cut-rounds s ns) ≡ h .done =
       let now : known - p .r ≡ 0 = omega arith in
       h .ahead
-      ∙ ap₂ (λ (m : ℕ) (l : List ℕ). h .done ++ (replicate m iteration ++ events (cut-rounds (drop known s) l))) now (drop-of-length-le ns l)
+      ∙ ap₂ (λ (m : ℕ) (l : List ℕ). h .done ++ (replicate m iteration ++ events (cut-rounds (drop known s) l))) now
+      (drop-of-length-le ns l)
       ∙ append-nil (h .done) in
-      ap (λ (es : List Event). after f es (outset f)) (ap (take k) none ∙ take-all k (h .done) (omega (arith, h .count))) ∙ h .at
+      ap (λ (es : List Event). after f es (outset f))
+      (ap (take k) none ∙ take-all k (h .done) (omega (arith, h .count))) ∙ h .at

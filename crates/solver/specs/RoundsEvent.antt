@@ -3,7 +3,8 @@
 --   Arrived form s ns n w   after n events the run over the syndromes s, cut to the lengths ns, is where w says
 --   Going rounds w       w is not over: there is an event more, in so many rounds
 --
--- Proved: the start; that it goes on by an iteration and by an entry; before its end and at its end the run is what `run` promises.
+-- Proved: the start; that it goes on by an iteration and by an entry; before its end and at its end the run is what
+-- `run` promises.
 use Prim.Native.Nat.{ℕ, zero, suc, _+_, _≤_, _<_, min}
 use mathlib.Core.Path.{_≡_, refl, sym, ap, _∙_, subst}
 use mathlib.Core.Logic.{if-pos, if-neg}
@@ -26,7 +27,8 @@ use Rattle.solver.specs.declared.Solver.{Solver}
 use Rattle.solver.specs.Solver.{form-of, state-of, Is, clip, clip-run}
 use Rattle.solver.specs.declared.rounds.Progress.{Progress}
 use Rattle.solver.specs.declared.rounds.Walk.{Walk}
-use Rattle.solver.specs.Rounds.{cut-rounds, length-cut, Here, here-start, here-run, here-iterate, here-enter, here-end}
+use Rattle.solver.specs.Rounds.{cut-rounds, length-cut, Here, here-start, here-run}
+use Rattle.solver.specs.Rounds.{here-iterate, here-enter, here-end}
 use Rattle.solver.specs.RoundsRun.{at-of, Ran, ran}
 
 pub record Going (rounds : ℕ) (w : Walk) : Type 0 where
@@ -36,7 +38,8 @@ pub record Going (rounds : ℕ) (w : Walk) : Type 0 where
 
 -- what `over` tells
 pub over-yes : (k r rounds i : ℕ) → (leb k r && leb rounds i) ≡ true → (k ≤ r) × (rounds ≤ i)
-over-yes k r rounds i e = (leb-true k r (and-left (leb k r) (leb rounds i) e), leb-true rounds i (and-right (leb k r) (leb rounds i) e))
+over-yes k r rounds i e =
+    (leb-true k r (and-left (leb k r) (leb rounds i) e), leb-true rounds i (and-right (leb k r) (leb rounds i) e))
   where
     and-left : (a b : Bool) → (a && b) ≡ true → a ≡ true
     and-left true b e = refl
@@ -59,7 +62,8 @@ module _ (form : Form) (s : List F) (ns : List ℕ) where
     pub syndromes : row (w .syndromes) ≡ entry (take (w .known) s)
     pub long : length (w .progress .swapped) ≡ 48
 
-  pub event-start : (table : List Gf) (solver : Solver) → row table ≡ entry (take 0 s) → Is form 0 solver (form-of form .start)
+  pub event-start : (table : List Gf) (solver : Solver) → row table ≡ entry (take 0 s)
+      → Is form 0 solver (form-of form .start)
       → Arrived 0 (record {
         progress = record { solver = solver; iterations = 0; swapped = replicate 48 false };
         syndromes = table;
@@ -78,7 +82,8 @@ module _ (form : Form) (s : List F) (ns : List ℕ) where
       nowhere (suc n) zero = refl
       nowhere (suc n) (suc i) = nowhere n i
 
-      same : outset (form-of form) ≡ at-of form (take 0 s) (record { solver = solver; iterations = 0; swapped = replicate 48 false })
+      same : outset (form-of form)
+          ≡ at-of form (take 0 s) (record { solver = solver; iterations = 0; swapped = replicate 48 false })
       same i = record { known = take 0 s; r = 0; state = sym (p .1) i; swapped = λ j. sym (nowhere 48 j) i }
 
   module _ (few : length s ≤ 48) (n : ℕ) (w : Walk) (t : Arrived n w) where
@@ -89,11 +94,16 @@ module _ (form : Form) (s : List F) (ns : List ℕ) where
     m = state-of form (p .iterations) (p .solver)
 
     pub event-iterate : p .iterations < w .known → (b : Bool) (next : Solver)
-        → ((f : Form) (m : form-of f .State) → Is f (p .iterations) (p .solver) m → b ≡ form-of f .swapping (p .iterations) (row (w .syndromes)) m)
+        → ((f : Form) (m : form-of f .State) → Is f (p .iterations) (p .solver) m
+        → b ≡ form-of f .swapping (p .iterations) (row (w .syndromes)) m)
         → ((f : Form) (m : form-of f .State) → Is f (p .iterations) (p .solver) m
         → Is f (p .iterations + 1) next (clip f (form-of f .iterate (p .iterations) (row (w .syndromes)) m)))
         → Arrived (n + 1) (record {
-          progress = record { solver = next; iterations = p .iterations + 1; swapped = set (p .swapped) (p .iterations) b };
+          progress = record {
+            solver = next;
+            iterations = p .iterations + 1;
+            swapped = set (p .swapped) (p .iterations) b;
+          };
           syndromes = w .syndromes;
           known = w .known;
           entered = w .entered;
@@ -121,23 +131,27 @@ module _ (form : Form) (s : List F) (ns : List ℕ) where
         -- a run of at most 48 syndromes loses nothing
         whole : clip form (form-of form .iterate r (entry known) m) ≡ form-of form .iterate r (entry known) m
         whole =
-            subst (λ (q : At (form-of form)). clip form (q .state) ≡ q .state) (here-run (form-of form) s ns (n + 1) _ (w .known) (w .entered) now)
+            subst (λ (q : At (form-of form)). clip form (q .state) ≡ q .state)
+            (here-run (form-of form) s ns (n + 1) _ (w .known) (w .entered) now)
             (clip-run form (cut-rounds s ns) (omega (arith, length-cut s ns)) (n + 1))
 
         state-is : form-of form .iterate r (entry known) m ≡ state-of form (r + 1) next
         state-is = sym (goes .1 ∙ ap (λ S. clip form (form-of form .iterate r S m)) (t .syndromes) ∙ whole)
 
-        noted : (j : ℕ) → note (form-of form .swapping r (entry known) m) r (λ i. getD (p .swapped) i false) j ≡ getD (set (p .swapped) r b) j false
+        noted : (j : ℕ) → note (form-of form .swapping r (entry known) m) r (λ i. getD (p .swapped) i false) j
+            ≡ getD (set (p .swapped) r b) j false
         noted j = go (ℕ-discrete j r)
           where
             b-is : form-of form .swapping r (entry known) m ≡ b
             b-is = sym (swaps form m (t .in-form, refl) ∙ ap (λ S. form-of form .swapping r S m) (t .syndromes))
 
-            go : Dec (j ≡ r) → note (form-of form .swapping r (entry known) m) r (λ i. getD (p .swapped) i false) j ≡ getD (set (p .swapped) r b) j false
+            go : Dec (j ≡ r) → note (form-of form .swapping r (entry known) m) r (λ i. getD (p .swapped) i false) j
+                ≡ getD (set (p .swapped) r b) j false
             go (yes e) =
                 if-pos (ℕ-discrete j r) e _ _
                 ∙ b-is
-                ∙ sym (ap (λ i. getD (set (p .swapped) r b) i false) e ∙ getD-set-same (p .swapped) r b false (omega (arith, t .long, t .at .fits)))
+                ∙ sym (ap (λ i. getD (set (p .swapped) r b) i false) e
+                ∙ getD-set-same (p .swapped) r b false (omega (arith, t .long, t .at .fits)))
             go (no e) = if-neg (ℕ-discrete j r) e _ _ ∙ sym (getD-set-other (p .swapped) r j b false e)
 
         same : happen (form-of form) iteration (here w)
@@ -146,7 +160,8 @@ module _ (form : Form) (s : List F) (ns : List ℕ) where
 
     pub event-enter : w .known ≤ p .iterations → w .entered < length ns → (more : ℕ) (table : List Gf) (next : Solver)
         → more ≡ min (w .known + getD ns (w .entered) 0) (length s) → row table ≡ entry (take more s)
-        → ((f : Form) (m : form-of f .State) → Is f (p .iterations) (p .solver) m → Is f (p .iterations) next (form-of f .enter (p .iterations) (row table) m))
+        → ((f : Form) (m : form-of f .State) → Is f (p .iterations) (p .solver) m
+        → Is f (p .iterations) next (form-of f .enter (p .iterations) (row table) m))
         → Arrived (n + 1) (record {
           progress = record { solver = next; iterations = p .iterations; swapped = p .swapped };
           syndromes = table;
@@ -173,7 +188,8 @@ module _ (form : Form) (s : List F) (ns : List ℕ) where
         goes = enters form m (t .in-form, refl)
 
         now : Here (form-of form) s ns (n + 1) (happen (form-of form) (entering round) (here w)) more (w .entered + 1)
-        now = rw more-is (here-enter (form-of form) s ns n (here w) (w .known) (w .entered) (t .at) (omega (arith, t .at .left)) h)
+        now = rw more-is
+            (here-enter (form-of form) s ns n (here w) (w .known) (w .entered) (t .at) (omega (arith, t .at .left)) h)
 
         state-is : form-of form .enter r (entry known) m ≡ state-of form r next
         state-is = sym (goes .1 ∙ ap (λ S. form-of form .enter r S m) (table-is ∙ ap entry (sym (now .known-is))))
@@ -188,10 +204,13 @@ module _ (form : Form) (s : List F) (ns : List ℕ) where
     event-going more = record { left = t .at .left; few = omega (arith, t .at .fits); more = more }
 
     reached : (k : ℕ) → run (form-of form) (cut-rounds s ns) k ≡ here w → Ran form (cut-rounds s ns) k p
-    reached k e = ran form (cut-rounds s ns) k p (t .in-form) (ap (λ (q : At (form-of form)). at-of form (q .known) p) e ∙ sym e)
+    reached k e =
+        ran form (cut-rounds s ns) k p (t .in-form) (ap (λ (q : At (form-of form)). at-of form (q .known) p) e ∙ sym e)
 
     pub event-ran : (k : ℕ) → n ≡ k → Ran form (cut-rounds s ns) k p
     event-ran k e = reached k (rw (sym e) (here-run (form-of form) s ns n _ (w .known) (w .entered) (t .at)))
 
-    pub event-over : (k : ℕ) → w .known ≤ p .iterations → length ns ≤ w .entered → n ≤ k → Ran form (cut-rounds s ns) k p
-    event-over k l h q = reached k (here-end (form-of form) s ns n _ (w .known) (w .entered) (t .at) (omega (arith, t .at .left)) h k q)
+    pub event-over : (k : ℕ) → w .known ≤ p .iterations → length ns ≤ w .entered → n ≤ k
+        → Ran form (cut-rounds s ns) k p
+    event-over k l h q =
+        reached k (here-end (form-of form) s ns n _ (w .known) (w .entered) (t .at) (omega (arith, t .at .left)) h k q)

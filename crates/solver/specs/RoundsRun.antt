@@ -51,11 +51,14 @@ Claimed Plain rounds k p =
     PlainAgrees (Run.iterations rounds k) (Run.measure (entry (Run.joined rounds)) (Run.iterations rounds k))
     (Run.measure-swapped (entry (Run.joined rounds)) (Run.iterations rounds k)) p
 Claimed Lookahead rounds k p =
-    LookaheadAgrees (Run.iterations rounds k) (Run.so-far rounds k) (Run.measure (entry (Run.joined rounds)) (Run.iterations rounds k))
+    LookaheadAgrees (Run.iterations rounds k) (Run.so-far rounds k)
+    (Run.measure (entry (Run.joined rounds)) (Run.iterations rounds k))
     (Run.measure-swapped (entry (Run.joined rounds)) (Run.iterations rounds k)) p
 Claimed Scaled rounds k p =
-    ScaledAgrees (Run.iterations rounds k) (Run.so-far rounds k) (Run.measure (entry (Run.joined rounds)) (Run.iterations rounds k))
-    (Run.factors (entry (Run.joined rounds)) (Run.iterations rounds k)) (Run.measure-swapped (entry (Run.joined rounds)) (Run.iterations rounds k)) p
+    ScaledAgrees (Run.iterations rounds k) (Run.so-far rounds k)
+    (Run.measure (entry (Run.joined rounds)) (Run.iterations rounds k))
+    (Run.factors (entry (Run.joined rounds)) (Run.iterations rounds k))
+    (Run.measure-swapped (entry (Run.joined rounds)) (Run.iterations rounds k)) p
 
 -- What `run` promises: the run of the code is that of the definitions, and the agreement of FORMAT 8.15 holds of it.
 pub record Ran (f : Form) (rounds : List (List F)) (k : ℕ) (p : Progress) : Type 0 where

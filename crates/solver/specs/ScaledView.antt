@@ -4,8 +4,10 @@
 --   scaled-with s Λ B Δ Θ     s with other polynomials
 --   clip-scaled s             s with the first 49 coefficients of its polynomials: all that an array holds
 --   iterate-scaled            an iteration in 49 coefficients
---   Products-of s a b c e     a, b, c and e are the products of an iteration of s, clipped: ρ_S Λ, ξ_S zB, ρ Δ/z and ξ Θ
---   stepped r S a b c e y t   the state for iteration r, from the products of the one before: B becomes y, and Θ becomes t with y added unless S_r = 0
+--   Products-of s a b c e     a, b, c and e are the products of an iteration of s, clipped: ρ_S Λ, ξ_S zB, ρ
+--                             Δ/z and ξ Θ
+--   stepped r S a b c e y t   the state for iteration r, from the products of the one before: B becomes y, and Θ
+--                             becomes t with y added unless S_r = 0
 use Prim.Native.Nat.{ℕ}
 use mathlib.Core.Path.{_≡_}
 use lib.IntN.{ℤ}

@@ -58,7 +58,8 @@ abbrev pub iterate-clipped : (f : Form) → Series → ℕ → form-of f .State 
 iterate-clipped f S r m = clip f (form-of f .iterate r S m)
 
 -- what holds in the form that a solver has, holds in the form that it is said to have
-pub for-form : {g : Form} (P : (f : Form) → form-of f .State → Type 0) (s : Solver) (r : ℕ) → s .form ≡ g → P g (state-of g r s)
+pub for-form : {g : Form} (P : (f : Form) → form-of f .State → Type 0) (s : Solver) (r : ℕ)
+    → s .form ≡ g → P g (state-of g r s)
     → (f : Form) (m : form-of f .State) → Is f r s m → P f m
 for-form P s r e p f m h = subst (P f) (h .1) (subst (λ (f : Form). P f (state-of f r s)) (sym e ∙ h .0) p)
 

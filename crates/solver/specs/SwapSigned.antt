@@ -16,7 +16,8 @@ use mir.Facts.{toZ-pos, toZ-ofZ}
 use Rattle.key_equation.specs.Length.{k-of}
 
 difference : (m n : ℕ) → pos m -ℤ pos n ≡ subℕ m n
-difference m zero = ap pos (add-zero m ∙ sym (sub-zero m)) ∙ ap (λ (t : Bool). cond t (negsuc (zero - suc m)) (pos (m - zero))) (sym (le-ltb m zero (omega arith)))
+difference m zero = ap pos (add-zero m ∙ sym (sub-zero m))
+    ∙ ap (λ (t : Bool). cond t (negsuc (zero - suc m)) (pos (m - zero))) (sym (le-ltb m zero (omega arith)))
 difference m (suc n) = refl
 
 mag-sub : (m n : ℕ) → mag (subℕ m n) ≤ m + n

@@ -18,8 +18,8 @@ use polynomial::SYNDROMES;
 use polynomial::product;
 use polynomial::syndromes::coefficient;
 
-// The state of the scaled form: Λ, B, γ', the length L, Δ and Θ. After r iterations k is r - 2L, and the five scalars of
-// FORMAT 8.10 are held for iteration r.
+// The state of the scaled form: Λ, B, γ', the length L, Δ and Θ. After r iterations k is r - 2L, and the five scalars
+// of FORMAT 8.10 are held for iteration r.
 pub struct Scaled {
     pub locator: [Gf; COEFFICIENTS],
     pub auxiliary: [Gf; COEFFICIENTS],

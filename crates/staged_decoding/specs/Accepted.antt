@@ -1,9 +1,10 @@
 -- What an accepted outcome means.
 --
--- Proved: the block is a codeword (accepted-codeword), and as received past its end (accepted-past); the count of a line is the number of positions
--- where received and decoded symbol differ (accepted-count), and the changed symbols are the sum of these (accepted-changed); the last stage is at
--- most v (accepted-last). The rounds of a corrected subword, joined, are syndromes that are settled, at the stage of its line, by what the decoded
--- subword differs by from the received one (accepted-pattern); a clean one has none (clean-rounds). Lines that are no subword's are clean
+-- Proved: the block is a codeword (accepted-codeword), and as received past its end (accepted-past); the count of a
+-- line is the number of positions where received and decoded symbol differ (accepted-count), and the changed symbols
+-- are the sum of these (accepted-changed); the last stage is at most v (accepted-last). The rounds of a corrected
+-- subword, joined, are syndromes that are settled, at the stage of its line, by what the decoded subword differs by
+-- from the received one (accepted-pattern); a clean one has none (clean-rounds). Lines that are no subword's are clean
 -- (accepted-line-past).
 use Prim.Native.Nat.{ℕ, zero, suc, _*_, _≤_, _<_}
 use mathlib.Core.Path.{_≡_, refl, sym, ap, _∙_}
@@ -19,8 +20,9 @@ use Rattle.profile.specs.Valid.{Valid}
 use Rattle.code.specs.Definition.{subword, Codeword}
 use Rattle.settling.specs.Definition.{settle}
 use Rattle.settling.specs.Settle.{settle-one, settle-cong}
-use Rattle.staged_decoding.specs.Definition.{total, clean, corrected, count-of, stage-of, Progress, start, line-at, line-rounds}
-use Rattle.staged_decoding.specs.Definition.{extend, Report, report, accepted, decode, differences}
+use Rattle.staged_decoding.specs.Definition.{total, clean, corrected, count-of, stage-of}
+use Rattle.staged_decoding.specs.Definition.{Progress, start, line-at, line-rounds, extend}
+use Rattle.staged_decoding.specs.Definition.{Report, report, accepted, decode, differences}
 use Rattle.staged_decoding.specs.Count.{total-cong}
 use Rattle.staged_decoding.specs.Stage.{line-of-is, stage-past, stage-line-past}
 use Rattle.staged_decoding.specs.Rounds.{rounds-joined}
@@ -58,12 +60,14 @@ module _ (p : Profile) (y d : Series) (x : Report) (e : decode p y ≡ accepted 
 
   pub accepted-past : (k : ℕ) → block-size p ≤ k → d k ≡ y k
   accepted-past k h =
-      ap (λ (s : Series). s k) (a .block) ∙ stage-past p (a .last) (before-stage p y (a .last)) k h ∙ before-past p y (a .last) k h
+      ap (λ (s : Series). s k) (a .block) ∙ stage-past p (a .last) (before-stage p y (a .last)) k h
+      ∙ before-past p y (a .last) k h
 
   pub accepted-line-past : (i : ℕ) → p .subwords ≤ i → x .line i ≡ clean
   accepted-line-past i h =
       line-is i
-      ∙ ap (λ o. Option·getD o clean) (stage-line-past p (a .last) (before-stage p y (a .last)) i h ∙ before-line-past p y (a .last) i h)
+      ∙ ap (λ o. Option·getD o clean)
+      (stage-line-past p (a .last) (before-stage p y (a .last)) i h ∙ before-line-past p y (a .last) i h)
 
   pub clean-rounds : (i : ℕ) → x .line i ≡ clean → x .rounds i ≡ []
   unfolding report
@@ -80,10 +84,12 @@ module _ (p : Profile) (y d : Series) (x : Report) (e : decode p y ≡ accepted 
   changes i = weight (p .length) (subword (p .length) (y ⊞ g .block) i)
 
   changes-are : (i : ℕ) → changes i ≡ differences p y d i
-  changes-are i = sym (differences-weight p y d i ∙ ap (λ s. weight (p .length) (subword (p .length) (y ⊞ s) i)) (a .block))
+  changes-are i =
+      sym (differences-weight p y d i ∙ ap (λ s. weight (p .length) (subword (p .length) (y ⊞ s) i)) (a .block))
 
   pub accepted-count : (i : ℕ) → i < p .subwords → count-of (x .line i) ≡ differences p y d i
-  accepted-count i h = ap count-of (settled i h .line-is) ∙ line-of-is (settled i h .stage) (changes i) .0 ∙ changes-are i
+  accepted-count i h = ap count-of (settled i h .line-is)
+      ∙ line-of-is (settled i h .stage) (changes i) .0 ∙ changes-are i
 
   pub accepted-changed : x .changed ≡ total (p .subwords) (differences p y d)
   unfolding report
@@ -99,10 +105,13 @@ module _ (p : Profile) (y d : Series) (x : Report) (e : decode p y ≡ accepted 
   accepted-last = omega (arith, last-is, a .over .low)
 
   pub accepted-pattern : Valid p → (i k s : ℕ) → i < p .subwords → x .line i ≡ corrected k s
-      → (s ≤ x .last) × (settle (capability p s) (p .length) (entry (joined (x .rounds i))) ≡ some (word (p .length) (subword (p .length) (y ⊞ d) i)))
+      → (s ≤ x .last) × (settle (capability p s) (p .length) (entry (joined (x .rounds i)))
+      ≡ some (word (p .length) (subword (p .length) (y ⊞ d) i)))
   unfolding report
-  accepted-pattern ok i k s h f =
-      (omega (arith, at-stage, last-is, x-settled .passed), ap (settle (capability p s) (p .length)) rounds ∙ agree ∙ settles)
+  accepted-pattern ok i k s h f = (
+    omega (arith, at-stage, last-is, x-settled .passed),
+    ap (settle (capability p s) (p .length)) rounds ∙ agree ∙ settles,
+  )
     where
       x-settled : Settled p y (suc (a .last)) g i (x .line i)
       x-settled = settled i h
@@ -119,7 +128,8 @@ module _ (p : Profile) (y d : Series) (x : Report) (e : decode p y ≡ accepted 
           ∙ ap (λ l. entry (joined (line-rounds p (g .row i) l))) (sym (line-is i) ∙ f)
           ∙ ap entry (rounds-joined p ok (g .row i) s s-low)
 
-      agree : settle (capability p s) (p .length) (entry (word (2 * capability p s) (g .row i))) ≡ settle (capability p s) (p .length) (g .row i)
+      agree : settle (capability p s) (p .length) (entry (word (2 * capability p s) (g .row i)))
+          ≡ settle (capability p s) (p .length) (g .row i)
       agree = settle-cong (capability p s) (p .length) _ _ (λ j l. entry-word _ (g .row i) j l)
 
       settles : settle (capability p s) (p .length) (g .row i) ≡ some (word (p .length) (subword (p .length) (y ⊞ d) i))

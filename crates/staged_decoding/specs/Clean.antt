@@ -23,7 +23,8 @@ use Rattle.staged_decoding.specs.Restoring.{restoring-within}
 abbrev pub untouched : Report
 untouched = record { line = λ i. clean; rounds = λ i. []; changed = 0; last = 0 }
 
-report-equal : (x z : Report) → x .line ≡ z .line → x .rounds ≡ z .rounds → x .changed ≡ z .changed → x .last ≡ z .last → x ≡ z
+report-equal : (x z : Report) → x .line ≡ z .line → x .rounds ≡ z .rounds → x .changed ≡ z .changed
+    → x .last ≡ z .last → x ≡ z
 report-equal x z a b c d = λ i. record { line = a i; rounds = b i; changed = c i; last = d i }
 
 pub decode-codeword : (p : Profile) → Valid p → (c : Series) → Codeword p c → decode p c ≡ accepted c untouched
@@ -38,10 +39,12 @@ decode-codeword p ok c code =
     none : (i : ℕ) → differences p c c i ≡ 0
     none i = differences-none p c c i (λ q l. refl)
 
-    line : (x : Report) → decode p c ≡ accepted c x → Restored p c c x → (i : ℕ) → Dec (i < p .subwords) → x .line i ≡ clean
+    line : (x : Report) → decode p c ≡ accepted c x → Restored p c c x → (i : ℕ)
+        → Dec (i < p .subwords) → x .line i ≡ clean
     line x e f i (no h) = accepted-line-past p c c x e i (omega arith)
     line x e f i (yes h) = go (f .line i h .0) (f .line i h .1 .over) (f .line i h .2)
       where
-        go : (r : ℕ) → ((q : ℕ) → q < r → capability p q < differences p c c i) → x .line i ≡ line-of r (differences p c c i) → x .line i ≡ clean
+        go : (r : ℕ) → ((q : ℕ) → q < r → capability p q < differences p c c i)
+            → x .line i ≡ line-of r (differences p c c i) → x .line i ≡ clean
         go zero over is = is ∙ ap (line-of 0) (none i)
         go (suc r) over is = absurd (omega (arith, over r (omega arith), none i))

@@ -1,8 +1,9 @@
 -- Laws of counts, of the numbers that pass a test, and of totals.
 --
--- Proved: the count is zero exactly if no number passes (count-none, none-count), falls with the test (count-imp), and is a matter of the numbers
--- below n (count-cong), at most n (count-most), one number after the other (count-next); the numbers that pass rise (nth-rising), are below n (nth-lt), pass (nth-passes) and are all there, each numbered by how many
--- stand before it (nth-rank, rank-nth, rank-lt); a sum over them is a sum over all that pass (nth-sum).
+-- Proved: the count is zero exactly if no number passes (count-none, none-count), falls with the test (count-imp), and
+-- is a matter of the numbers below n (count-cong), at most n (count-most), one number after the other (count-next); the
+-- numbers that pass rise (nth-rising), are below n (nth-lt), pass (nth-passes) and are all there, each numbered by how
+-- many stand before it (nth-rank, rank-nth, rank-lt); a sum over them is a sum over all that pass (nth-sum).
 use Prim.Native.Nat.{ℕ, zero, suc, _+_, _≤_, _<_}
 use mathlib.Core.Path.{_≡_, refl, sym, ap, ap₂, _∙_}
 use mathlib.Core.Bool.{Bool, true, false, cond, true≢false}
@@ -44,7 +45,8 @@ count-next b i c r e h = e ∙ ap (λ c. cond (b i) (suc c) c) h ∙ ap (λ n. c
 pub count-cong : (n : ℕ) (b c : ℕ → Bool) → ((i : ℕ) → i < n → b i ≡ c i) → count n b ≡ count n c
 unfolding count
 count-cong zero b c h = refl
-count-cong (suc n) b c h = ap₂ (λ x k. cond x (suc k) k) (h n (omega arith)) (count-cong n b c (λ i l. h i (omega arith)))
+count-cong (suc n) b c h =
+    ap₂ (λ x k. cond x (suc k) k) (h n (omega arith)) (count-cong n b c (λ i l. h i (omega arith)))
 
 pub none-count : (n : ℕ) (b : ℕ → Bool) → ((i : ℕ) → i < n → b i ≡ false) → count n b ≡ 0
 none-count zero b h = count-zero b
@@ -146,7 +148,8 @@ rank-nth (suc n) b w h = go (rank-nth n b w) (decLt w (count n b))
     go ih (yes l) = rw (nth-old n b w l) (ih l)
     go ih (no l) = rw (nth-new n b w (omega arith)) (sym (last-new n b w h (omega arith) .1))
 
-pub nth-sum : (n : ℕ) (b : ℕ → Bool) (f : ℕ → F) → sum (count n b) (λ w. f (nth n b w)) ≡ sum n (λ i. cond (b i) (f i) 𝟎)
+pub nth-sum : (n : ℕ) (b : ℕ → Bool) (f : ℕ → F)
+    → sum (count n b) (λ w. f (nth n b w)) ≡ sum n (λ i. cond (b i) (f i) 𝟎)
 nth-sum zero b f = ap (λ k. sum k (λ w. f (nth 0 b w))) (count-zero b) ∙ sum-none _ ∙ sym (sum-none _)
 nth-sum (suc n) b f = go (nth-sum n b f) (b n) refl
   where

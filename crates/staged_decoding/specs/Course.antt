@@ -1,15 +1,17 @@
 -- How decoding goes: its stages one by one, and where it ends.
 --
 --   before-stage p y r   the progress before stage r, after-stage p y r: after it, y being received
---   Entered p y r        stage r is entered: after each stage before it some subwords were left unsettled, and not too many
+--   Entered p y r        stage r is entered: after each stage before it some subwords were left unsettled, and
+--                        not too many
 --   Over p y s           stage s is entered, and after it every subword is settled
 --   Fails p y s          stage s is entered, and after it too many subwords are left unsettled
 --   Accepts p y d x      decoding is over, the block is then d, a codeword, and the report is x
 --   Rejects p y          decoding is over, and the block is then no codeword
 --
--- Proved: the three ways on after a stage (stages-over, stages-stop, stages-on), which a loop follows; decoding accepts, fails or rejects (course),
--- and the outcome is accepted, failed or foreign exactly if it does so (accepted-course, failed-course, foreign-course); where the stages end with every
--- subword settled decoding is over (settled-course).
+-- Proved: the three ways on after a stage (stages-over, stages-stop, stages-on), which a loop follows; decoding
+-- accepts, fails or rejects (course), and the outcome is accepted, failed or foreign exactly if it does so
+-- (accepted-course, failed-course, foreign-course); where the stages end with every subword settled decoding is over
+-- (settled-course).
 use Prim.Native.Nat.{ℕ, zero, suc, _+_, _-_, _≤_, _<_}
 use mathlib.Core.Path.{_≡_, refl, sym, ap, ap₂, _∙_}
 use mathlib.Core.Logic.{_↔_}
@@ -23,8 +25,9 @@ use Rattle.series.specs.Decide.{holds-yes, holds-no}
 use Rattle.profile.specs.declared.Profile.{Profile}
 use Rattle.code.specs.Definition.{Codeword}
 use Rattle.code.specs.Encoding.{codeword?}
-use Rattle.staged_decoding.specs.Definition.{Progress, start, stage, unsettled, round, settled, stopped, stages}
-use Rattle.staged_decoding.specs.Definition.{Report, report, accepted, failed, foreign, outcome-number, judged, decode}
+use Rattle.staged_decoding.specs.Definition.{Progress, start, stage, unsettled, round, settled, stopped}
+use Rattle.staged_decoding.specs.Definition.{stages, Report, report, accepted, failed, foreign}
+use Rattle.staged_decoding.specs.Definition.{outcome-number, judged, decode}
 
 -- ---- the ways on after a stage
 
@@ -40,7 +43,8 @@ module _ (p : Profile) (r : ℕ) (g h : Progress) (is : h ≡ stage p r g) where
   stages-stop zero l = rw (← is, ne-eqb (unsettled p h) 0 (omega arith), lt-ltb 0 (unsettled p h) l)
   stages-stop (suc left) l = rw (← is, ne-eqb (unsettled p h) 0 (omega arith), lt-ltb (suc left) (unsettled p h) l)
 
-  pub stages-on : (left : ℕ) → 1 ≤ unsettled p h → unsettled p h ≤ left → stages p left r g ≡ stages p (left - 1) (r + 1) (round p r h)
+  pub stages-on : (left : ℕ) → 1 ≤ unsettled p h → unsettled p h ≤ left
+      → stages p left r g ≡ stages p (left - 1) (r + 1) (round p r h)
   unfolding stages
   stages-on zero l k = absurd (omega arith)
   stages-on (suc left) l k =
@@ -57,7 +61,8 @@ abbrev pub after-stage : Profile → Series → ℕ → Progress
 after-stage p y r = stage p r (before-stage p y r)
 
 abbrev pub Entered : Profile → Series → ℕ → Type 0
-Entered p y r = (q : ℕ) → q < r → (1 ≤ unsettled p (after-stage p y q)) × (unsettled p (after-stage p y q) ≤ p .nested - q)
+Entered p y r = (q : ℕ) → q < r
+    → (1 ≤ unsettled p (after-stage p y q)) × (unsettled p (after-stage p y q) ≤ p .nested - q)
 
 -- one number more
 pub up-to : (P : ℕ → Type 0) (r : ℕ) → ((q : ℕ) → q < r → P q) → P r → (q : ℕ) → q < suc r → P q
@@ -105,10 +110,12 @@ pub record Rejects (p : Profile) (y : Series) : Type 0 where
 
 module _ (p : Profile) (y : Series) where
   stages-settled : (s : ℕ) → Over p y s → stages p (p .nested) 0 (start p y) ≡ settled s (after-stage p y s)
-  stages-settled s o = stages-entered p y s (o .low) (o .entered) ∙ stages-over p s (before-stage p y s) _ refl (p .nested - s) (o .none-left)
+  stages-settled s o = stages-entered p y s (o .low) (o .entered)
+      ∙ stages-over p s (before-stage p y s) _ refl (p .nested - s) (o .none-left)
 
   stages-stopped : (s : ℕ) → Fails p y s → stages p (p .nested) 0 (start p y) ≡ stopped s
-  stages-stopped s f = stages-entered p y s (f .low) (f .entered) ∙ stages-stop p s (before-stage p y s) _ refl (p .nested - s) (f .many)
+  stages-stopped s f = stages-entered p y s (f .low) (f .entered)
+      ∙ stages-stop p s (before-stage p y s) _ refl (p .nested - s) (f .many)
 
   decode-over : (s : ℕ) → Over p y s → decode p y ≡ judged p (settled s (after-stage p y s))
   unfolding decode
@@ -121,7 +128,8 @@ module _ (p : Profile) (y : Series) where
       ∙ rw (holds-yes (codeword? p (after-stage p y (a .last) .block)) c) (sym (ap₂ accepted (a .block) (a .says)))
 
   rejects : Rejects p y → decode p y ≡ foreign
-  rejects a = decode-over (a .last) (a .over) ∙ rw (holds-no (codeword? p (after-stage p y (a .last) .block)) (a .no-code))
+  rejects a = decode-over (a .last) (a .over)
+      ∙ rw (holds-no (codeword? p (after-stage p y (a .last) .block)) (a .no-code))
 
   fails : (s : ℕ) → Fails p y s → decode p y ≡ failed s
   unfolding decode
@@ -152,13 +160,15 @@ module _ (p : Profile) (y : Series) where
 
   course-from : (left r : ℕ) → r + left ≡ p .nested → Entered p y r → Course
   course-from zero r e f = course-next r (omega arith) f (λ a b. absurd (omega arith))
-  course-from (suc left) r e f = course-next r (omega arith) f (λ a b. course-from left (suc r) (omega arith) (up-to _ r f (a, b)))
+  course-from (suc left) r e f =
+      course-next r (omega arith) f (λ a b. course-from left (suc r) (omega arith) (up-to _ r f (a, b)))
 
   pub course : Course
   course = course-from (p .nested) 0 (omega arith) (λ q l. absurd (omega arith))
 
   -- every subword is settled just where decoding is over
-  pub settled-course : (r : ℕ) (g : Progress) → stages p (p .nested) 0 (start p y) ≡ settled r g → Over p y r × (g ≡ after-stage p y r)
+  pub settled-course : (r : ℕ) (g : Progress) → stages p (p .nested) 0 (start p y) ≡ settled r g
+      → Over p y r × (g ≡ after-stage p y r)
   settled-course r g e = go course
     where
       over : (s : ℕ) → Over p y s → Over p y r × (g ≡ after-stage p y r)

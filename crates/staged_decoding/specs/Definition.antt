@@ -1,9 +1,12 @@
 -- Staged decoding as a function of the profile and the received block: FORMAT 6 and 7. No solver is mentioned here.
--- A block is a series of which the first m × n symbols are read; the syndromes of a subword are a series, its row in the table, zero where not known.
+-- A block is a series of which the first m × n symbols are read; the syndromes of a subword are a series, its row in
+-- the table, zero where not known.
 --
---   count n b            how many numbers below n pass the test b; nth n b w: number w of them; total n f: f 0 + .. + f (n − 1)
+--   count n b            how many numbers below n pass the test b; nth n b w: number w of them; total n f: f
+--                        0 + .. + f (n − 1)
 --   Line                 what the report says of a subword: clean, or corrected (FORMAT's mended) with count and stage
---   Progress             the block as corrected so far, the lines of the subwords that are settled, the rows of syndromes
+--   Progress             the block as corrected so far, the lines of the subwords that are settled, the rows
+--                        of syndromes
 --   start p y            the progress before stage 0, y being received
 --   found p r g i        the pattern that settles subword i at stage r; none if there is none, or it was settled before
 --   step p r i g         stage r for subword i alone; stage p r g: for all of them

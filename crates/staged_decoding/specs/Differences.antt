@@ -1,7 +1,7 @@
 -- Where two blocks differ, and their sum.
 --
--- Proved: subwords and syndromes of a sum (subword-⊞, syndrome-sum-block); the differences of two blocks are the changes of their sum
--- (differences-weight); blocks with the same symbols have none (differences-none).
+-- Proved: subwords and syndromes of a sum (subword-⊞, syndrome-sum-block); the differences of two blocks are the
+-- changes of their sum (differences-weight); blocks with the same symbols have none (differences-none).
 use Prim.Native.Nat.{ℕ, zero, suc, _<_}
 use mathlib.Core.Path.{_≡_, sym, ap, _∙_}
 use mathlib.Core.Bool.{Bool, not}
@@ -39,17 +39,20 @@ count-weight (suc n) a b f h = go (count-weight n a b f h) (a n ≟ b n)
   where
     go : count n (differ? a b) ≡ weight n f → Dec (a n ≡ b n) → count (suc n) (differ? a b) ≡ weight (suc n) f
     go ih (yes e) =
-        count-no n (differ? a b) (ap not (holds-yes (a n ≟ b n) e)) ∙ ih ∙ sym (weight-skip n f (h n ∙ ap (λ t. t ⊕ b n) e ∙ ⊕-self (b n)))
+        count-no n (differ? a b) (ap not (holds-yes (a n ≟ b n) e)) ∙ ih
+        ∙ sym (weight-skip n f (h n ∙ ap (λ t. t ⊕ b n) e ∙ ⊕-self (b n)))
     go ih (no e) =
         count-yes n (differ? a b) (ap not (holds-no (a n ≟ b n) e))
         ∙ ap suc ih
         ∙ sym (weight-take n f (λ z. e (⊕-equal (a n) (b n) (sym (h n) ∙ z))))
 
-pub differences-weight : (p : Profile) (s t : Series) (i : ℕ) → differences p s t i ≡ weight (p .length) (subword (p .length) (s ⊞ t) i)
+pub differences-weight : (p : Profile) (s t : Series) (i : ℕ)
+    → differences p s t i ≡ weight (p .length) (subword (p .length) (s ⊞ t) i)
 unfolding differences
 differences-weight p s t i = count-weight (p .length) _ _ _ (subword-⊞ (p .length) s t i)
 
 pub differences-none : (p : Profile) (s t : Series) (i : ℕ)
     → ((q : ℕ) → q < p .length → subword (p .length) s i q ≡ subword (p .length) t i q) → differences p s t i ≡ 0
 unfolding differences
-differences-none p s t i h = none-count (p .length) _ (λ q l. ap not (holds-yes (subword (p .length) s i q ≟ subword (p .length) t i q) (h q l)))
+differences-none p s t i h =
+    none-count (p .length) _ (λ q l. ap not (holds-yes (subword (p .length) s i q ≟ subword (p .length) t i q) (h q l)))

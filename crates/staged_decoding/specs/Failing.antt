@@ -1,7 +1,8 @@
--- When a decoder answers 8. That it does so exactly if too many subwords are left unsettled, whatever was written, is `failed-course` of Course.
+-- When a decoder answers 8. That it does so exactly if too many subwords are left unsettled, whatever was written, is
+-- `failed-course` of Course.
 --
--- Proved, where no mistake is made: the outcome is failed after stage s exactly if s is the first stage after which more than v − s subwords have
--- more than t_s changes (failing-exactly).
+-- Proved, where no mistake is made: the outcome is failed after stage s exactly if s is the first stage after which
+-- more than v − s subwords have more than t_s changes (failing-exactly).
 use Prim.Native.Nat.{ℕ, _≤_}
 use mathlib.Core.Path.{_≡_}
 use mathlib.Core.Logic.{_↔_}
@@ -18,14 +19,16 @@ use Rattle.staged_decoding.specs.Restorable.{beyond, Reached, Unmistaken
 use Rattle.staged_decoding.specs.Fate.{unsettled-beyond, entered-reached, reached-entered}
 
 -- later stages allow more
-pub beyond-falls : (p : Profile) → Valid p → (c y : Series) (a b : ℕ) → a ≤ b → b ≤ p .nested → beyond p c y b ≤ beyond p c y a
+pub beyond-falls : (p : Profile) → Valid p → (c y : Series) (a b : ℕ) → a ≤ b → b ≤ p .nested
+    → beyond p c y b ≤ beyond p c y a
 unfolding beyond
 beyond-falls p ok c y a b l h =
     let rise : capability p a ≤ capability p b = capability-mono p ok a b l h in
     count-imp (p .subwords) _ _ (λ i k t.
     lt-ltb (capability p a) (differences p y c i) (omega (arith, ltb-true (capability p b) (differences p y c i) t)))
 
-pub failing-exactly : (p : Profile) → Valid p → (c y : Series) → Unmistaken p c y → (s : ℕ) → decode p y ≡ failed s ↔ TooMany p c y s
+pub failing-exactly : (p : Profile) → Valid p → (c y : Series) → Unmistaken p c y → (s : ℕ)
+    → decode p y ≡ failed s ↔ TooMany p c y s
 failing-exactly p ok c y u s = (λ e. to (failed-course p y s .0 e), λ t. failed-course p y s .1 (from t))
   where
     to : Fails p y s → TooMany p c y s

@@ -1,11 +1,13 @@
 -- What becomes of each subword if no mistake is made.
 --
 --   Done p c y r g i l   subword i was settled before stage r, as it was written, and l is its line
---   Due p c y r k g i    it has more changes than each stage before r allows, its received symbols, and the changes' syndromes below k in its row
+--   Due p c y r k g i    it has more changes than each stage before r allows, its received symbols, and the changes'
+--                        syndromes below k in its row
 --   Fates p c y r k g    for every subword one of the two, by its line
 --
--- Proved, where `Unmistaken`: the fates hold before and after each stage that is reached (fates-before, fates-after); the unsettled subwords are then
--- those beyond (unsettled-beyond); a stage is reached exactly if it is entered (reached-entered, entered-reached).
+-- Proved, where `Unmistaken`: the fates hold before and after each stage that is reached (fates-before, fates-after);
+-- the unsettled subwords are then those beyond (unsettled-beyond); a stage is reached exactly if it is entered
+-- (reached-entered, entered-reached).
 use Prim.Native.Nat.{ℕ, zero, suc, _-_, _*_, _≤_, _<_}
 use mathlib.Core.Path.{_≡_, refl, sym, ap, ap₂, _∙_}
 use mathlib.Core.Logic.{by-cases}
@@ -28,10 +30,11 @@ use Rattle.code.specs.Definition.{subword, nested}
 use Rattle.code.specs.Block.{syndrome-nested}
 use Rattle.settling.specs.Definition.{Explains}
 use Rattle.settling.specs.Settle.{settle-one, settle-cong}
-use Rattle.staged_decoding.specs.Definition.{count, nth, Line, line-of, Progress, start, unsettled-line, open?, unsettled, found, stage}
-use Rattle.staged_decoding.specs.Definition.{fresh, window, extend, round, differences}
+use Rattle.staged_decoding.specs.Definition.{count, nth, Line, line-of, Progress, start, unsettled-line, open?}
+use Rattle.staged_decoding.specs.Definition.{unsettled, found, stage, fresh, window, extend, round, differences}
 use Rattle.staged_decoding.specs.Count.{count-cong, rank-lt, nth-rank, nth-sum}
-use Rattle.staged_decoding.specs.Stage.{found-open, found-settled, stage-row, stage-line, stage-subword, stage-stays}
+use Rattle.staged_decoding.specs.Stage.{found-open, found-settled, stage-row}
+use Rattle.staged_decoding.specs.Stage.{stage-line, stage-subword, stage-stays}
 use Rattle.staged_decoding.specs.Round.{window-low, window-in, extend-open, Meets, system-unique}
 use Rattle.staged_decoding.specs.Course.{before-stage, after-stage, Entered, up-to}
 use Rattle.staged_decoding.specs.Differences.{subword-⊞, syndrome-sum-block, differences-weight}
@@ -77,7 +80,8 @@ module _ (p : Profile) (ok : Valid p) (c y : Series) (u : Unmistaken p c y) wher
     row-is = λ j l.
         rw (lt-ltb i (p .subwords) h)
         (cut-low (2 * capability p 0) _ j l
-        ∙ sym (syndrome-sum-block n y c i j ∙ ap (λ t. syndrome n (subword n y i) j ⊕ t) (u .written .subwords i h j l) ∙ ⊕-zero _));
+        ∙ sym (syndrome-sum-block n y c i j
+        ∙ ap (λ t. syndrome n (subword n y i) j ⊕ t) (u .written .subwords i h j l) ∙ ⊕-zero _));
   }
 
   -- ---- a stage
@@ -90,7 +94,8 @@ module _ (p : Profile) (ok : Valid p) (c y : Series) (u : Unmistaken p c y) wher
       -- more changes than allowed
       beyond-stays : capability p r < differences p y c i → Next
       beyond-stays over =
-          let f : found p r g i ≡ none = found-open p r g i e ∙ settle-cong (capability p r) n _ _ (d .row-is) ∙ u .never r low reached i h over in
+          let f : found p r g i ≡ none = found-open p r g i e ∙ settle-cong (capability p r) n _ _ (d .row-is)
+          ∙ u .never r low reached i h over in
           rw (stage-line p r g i h none none e f) (record {
             over = up-to (λ q. capability p q < differences p y c i) r (d .over) over;
             same = λ q l. stage-stays p r g i h f q l ∙ d .same q l;
@@ -122,7 +127,8 @@ module _ (p : Profile) (ok : Valid p) (c y : Series) (u : Unmistaken p c y) wher
     stage-fate t = go (g .line i) refl t
       where
         go : (o : Option Line) → g .line i ≡ o → Fate p c y r (2 * capability p r) g i o → Next
-        go none e d = by-cases (decLt (capability p r) (differences p y c i)) (beyond-stays e d) (λ l. within-settles e d (omega arith))
+        go none e d = by-cases (decLt (capability p r) (differences p y c i)) (beyond-stays e d)
+            (λ l. within-settles e d (omega arith))
         go (some l) e d =
             let f : found p r g i ≡ none = found-settled p r g i l e in
             rw (stage-line p r g i h (some l) none e f) (record {
@@ -142,7 +148,8 @@ module _ (p : Profile) (ok : Valid p) (c y : Series) (u : Unmistaken p c y) wher
         go : (o : Option Line) → Fate p c y (suc r) k g i o → unsettled-line o ≡ beyond? p c y r i
         go none d = sym (lt-ltb (capability p r) (differences p y c i) (d .over r (omega arith)))
         go (some l) d =
-            let rise : capability p (d .stage) ≤ capability p r = capability-mono p ok (d .stage) r (omega (arith, d .passed)) low in
+            let rise : capability p (d .stage) ≤ capability p r =
+            capability-mono p ok (d .stage) r (omega (arith, d .passed)) low in
             sym (le-ltb (capability p r) (differences p y c i) (omega (arith, d .least .within)))
 
     open-count : unsettled p g ≡ beyond p c y r
@@ -160,7 +167,8 @@ module _ (p : Profile) (ok : Valid p) (c y : Series) (u : Unmistaken p c y) wher
             → syndrome n (subword n (g .block) i) j ≡ syndrome n (subword n c i) j ⊕ cond (unsettled-line o) (S i j) 𝟎
         go none d =
             syndrome-cong n _ _ (d .same) j
-            ∙ sym (ap (λ t. syndrome n (subword n c i) j ⊕ t) (syndrome-sum-block n y c i j ∙ ⊕-comm _ _) ∙ ⊕-self-left _ _)
+            ∙ sym (ap (λ t. syndrome n (subword n c i) j ⊕ t) (syndrome-sum-block n y c i j ∙ ⊕-comm _ _)
+            ∙ ⊕-self-left _ _)
         go (some l) d = syndrome-cong n _ _ (d .same) j ∙ sym (⊕-zero _)
 
     -- so a nested word's syndromes are those of the changes that are still there
@@ -170,7 +178,8 @@ module _ (p : Profile) (ok : Valid p) (c y : Series) (u : Unmistaken p c y) wher
         syndrome-nested p (g .block) l j
         ∙ sum-cong (p .subwords) _ _ (λ i h. ap (λ t. pow α (i * l) ⊙ t) (corrected-syndrome i h j) ∙ ⊙-⊕ _ _ _)
         ∙ sum-⊕ (p .subwords) _ _
-        ∙ ap₂ _⊕_ (sym (syndrome-nested p c l j) ∙ u .written .nested-words l hl j hj) (sum-cong (p .subwords) _ _ (λ i h. inside (open? g i) _ _))
+        ∙ ap₂ _⊕_ (sym (syndrome-nested p c l j) ∙ u .written .nested-words l hl j hj)
+        (sum-cong (p .subwords) _ _ (λ i h. inside (open? g i) _ _))
         ∙ zero-⊕ _
       where
         inside : (b : Bool) (x z : F) → x ⊙ cond b z 𝟎 ≡ cond b (x ⊙ z) 𝟎
@@ -182,23 +191,27 @@ module _ (p : Profile) (ok : Valid p) (c y : Series) (u : Unmistaken p c y) wher
     unfolding fresh unsettled
     fresh-right more few i h e j l =
         let o : open? g i ≡ true = ap unsettled-line e in
-        system-unique p ok g j (λ w. S (nth (p .subwords) (open? g) w) j) meets (count i (open? g)) (rank-lt (p .subwords) (open? g) i h o)
+        system-unique p ok g j (λ w. S (nth (p .subwords) (open? g) w) j) meets (count i (open? g))
+        (rank-lt (p .subwords) (open? g) i h o)
         ∙ ap (λ t. S t j) (nth-rank (p .subwords) (open? g) i h o)
       where
         meets : Meets p g j (λ w. S (nth (p .subwords) (open? g) w) j)
         meets t m =
             let rise : capability p (suc r) ≤ capability p (p .nested - t) =
             capability-mono p ok (suc r) (p .nested - t) (omega arith) (omega arith) in
-            nth-sum (p .subwords) (open? g) (λ i. pow α (i * t) ⊙ S i j) ∙ sym (nested-syndrome t j (omega arith) (omega arith))
+            nth-sum (p .subwords) (open? g) (λ i. pow α (i * t) ⊙ S i j)
+            ∙ sym (nested-syndrome t j (omega arith) (omega arith))
 
-  round-fates : (r : ℕ) (g : Progress) → r < p .nested → unsettled p g ≤ p .nested - r → Fates p c y (suc r) (2 * capability p r) g
+  round-fates : (r : ℕ) (g : Progress) → r < p .nested → unsettled p g ≤ p .nested - r
+      → Fates p c y (suc r) (2 * capability p r) g
       → Fates p c y (suc r) (2 * capability p (suc r)) (round p r g)
   unfolding extend
   round-fates r g more few f i h = go (g .line i) refl (f i h)
     where
       go : (o : Option Line) → g .line i ≡ o → Fate p c y (suc r) (2 * capability p r) g i o
           → Fate p c y (suc r) (2 * capability p (suc r)) (round p r g) i o
-      go (some l) e d = record { stage = d .stage; passed = d .passed; least = d .least; line-is = d .line-is; same = d .same }
+      go (some l) e d =
+          record { stage = d .stage; passed = d .passed; least = d .least; line-is = d .line-is; same = d .same }
       go none e d = record {
         over = d .over;
         same = d .same;
@@ -208,7 +221,8 @@ module _ (p : Profile) (ok : Valid p) (c y : Series) (u : Unmistaken p c y) wher
           known : (j : ℕ) → j < 2 * capability p (suc r) → Dec (j < 2 * capability p r)
               → window (2 * capability p r) (2 * capability p (suc r)) (fresh p g i) (g .row i) j ≡ S i j
           known j l (yes q) = window-low _ _ (fresh p g i) (g .row i) j q ∙ d .row-is j q
-          known j l (no q) = window-in _ _ (fresh p g i) (g .row i) j (omega arith) l ∙ fresh-right r _ (omega arith) g f more few i h e j l
+          known j l (no q) = window-in _ _ (fresh p g i) (g .row i) j (omega arith) l
+              ∙ fresh-right r _ (omega arith) g f more few i h e j l
 
   -- ---- every stage that is reached
 
@@ -220,9 +234,11 @@ module _ (p : Profile) (ok : Valid p) (c y : Series) (u : Unmistaken p c y) wher
       let f : Fates p c y (suc r) (2 * capability p r) (after-stage p y r) =
       λ i h. stage-fate r (omega arith) earlier (before-stage p y r) i h (fates-before r (omega arith) earlier i h) in
       round-fates r (after-stage p y r) low
-      (omega (arith, open-count r (2 * capability p r) (omega arith) (after-stage p y r) f, reached r (omega arith) .1)) f
+      (omega (arith, open-count r (2 * capability p r) (omega arith) (after-stage p y r) f, reached r (omega arith) .1))
+      f
 
-  pub fates-after : (r : ℕ) → r ≤ p .nested → Reached p c y r → Fates p c y (suc r) (2 * capability p r) (after-stage p y r)
+  pub fates-after : (r : ℕ) → r ≤ p .nested → Reached p c y r
+      → Fates p c y (suc r) (2 * capability p r) (after-stage p y r)
   fates-after r low reached i h = stage-fate r low reached (before-stage p y r) i h (fates-before r low reached i h)
 
   pub unsettled-beyond : (r : ℕ) → r ≤ p .nested → Reached p c y r → unsettled p (after-stage p y r) ≡ beyond p c y r
@@ -230,7 +246,8 @@ module _ (p : Profile) (ok : Valid p) (c y : Series) (u : Unmistaken p c y) wher
 
   pub reached-entered : (r : ℕ) → r ≤ p .nested → Reached p c y r → Entered p y r
   reached-entered r low reached q l =
-      let e : unsettled p (after-stage p y q) ≡ beyond p c y q = unsettled-beyond q (omega arith) (λ a b. reached a (omega arith)) in
+      let e : unsettled p (after-stage p y q) ≡ beyond p c y q =
+      unsettled-beyond q (omega arith) (λ a b. reached a (omega arith)) in
       rw e (reached q l)
 
   pub entered-reached : (r : ℕ) → r ≤ p .nested → Entered p y r → Reached p c y r

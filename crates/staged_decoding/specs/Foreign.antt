@@ -1,7 +1,7 @@
 -- What is wrong with a block that is refused as foreign: its nested words.
 --
--- Proved, for a valid profile: once every subword is settled each is in the code of capability t0 (settled-in-code, settled-subwords), so without nested
--- words no block is foreign (never-foreign).
+-- Proved, for a valid profile: once every subword is settled each is in the code of capability t0 (settled-in-code,
+-- settled-subwords), so without nested words no block is foreign (never-foreign).
 use Prim.Native.Nat.{ℕ, zero, suc, _*_, _≤_, _<_}
 use mathlib.Core.Path.{_≡_, sym, ap, _∙_}
 use mathlib.Core.Logic.{_≢_}
@@ -29,7 +29,8 @@ module _ (p : Profile) (ok : Valid p) (y : Series) where
       → after-stage p y r .row i j ≡ syndrome (p .length) (subword (p .length) y i) j
   unfolding before-stage start
   row-first zero low i j h l =
-      ap (λ (s : ℕ → Series). s i j) (stage-row p 0 (start p y)) ∙ rw (lt-ltb i (p .subwords) h) (cut-low (2 * capability p 0) _ j l)
+      ap (λ (s : ℕ → Series). s i j) (stage-row p 0 (start p y))
+      ∙ rw (lt-ltb i (p .subwords) h) (cut-low (2 * capability p 0) _ j l)
   row-first (suc r) low i j h l =
       ap (λ (s : ℕ → Series). s i j) (stage-row p (suc r) (before-stage p y (suc r)))
       ∙ extend-low p _ _ (after-stage p y r) i j (omega (arith, capability-mono p ok 0 r (omega arith) (omega arith)))
@@ -40,7 +41,8 @@ module _ (p : Profile) (ok : Valid p) (y : Series) where
   settled-in-code s over i h j l =
       let (line, f) = line-there p (after-stage p y s) (over .none-left) i h in
       let x : Settled p y (suc s) (after-stage p y s) i line = rw f at (sound-after p y s i h) in
-      let rise : capability p 0 ≤ capability p (x .stage) = capability-mono p ok 0 (x .stage) (omega arith) (omega (arith, x .passed, over .low)) in
+      let rise : capability p 0 ≤ capability p (x .stage) =
+      capability-mono p ok 0 (x .stage) (omega arith) (omega (arith, x .passed, over .low)) in
       let added : S y ⊕ S (after-stage p y s .block) ≡ S y =
       sym (syndrome-sum-block (p .length) y (after-stage p y s .block) i j)
       ∙ x .explained .syndromes j (omega arith)
@@ -51,7 +53,8 @@ module _ (p : Profile) (ok : Valid p) (y : Series) where
       S b = syndrome (p .length) (subword (p .length) b i) j
 
   -- the same where the stages end
-  pub settled-subwords : (r : ℕ) (g : Progress) → stages p (p .nested) 0 (start p y) ≡ settled r g → Subwords p (g .block)
+  pub settled-subwords : (r : ℕ) (g : Progress)
+      → stages p (p .nested) 0 (start p y) ≡ settled r g → Subwords p (g .block)
   settled-subwords r g e = let (over, is) = settled-course p y r g e in rw is (settled-in-code r over)
 
   pub never-foreign : p .nested ≡ 0 → decode p y ≢ foreign

@@ -1,5 +1,5 @@
--- Definition is what the promises speak of, and Restorable the condition of restoring. Accepted, Restoring, Failing, Foreign and Clean hold the
--- theorems; Count, Stage, Round, Rounds and Course are what code cites.
+-- Definition is what the promises speak of, and Restorable the condition of restoring. Accepted, Restoring, Failing,
+-- Foreign and Clean hold the theorems; Count, Stage, Round, Rounds and Course are what code cites.
 pub mod Definition
 pub mod Count
 pub mod Stage

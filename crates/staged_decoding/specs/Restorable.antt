@@ -33,7 +33,8 @@ Reached p c y r = (q : ℕ) → q < r → (1 ≤ beyond p c y q) × (beyond p c 
 -- the syndromes that count are those of the changes: the written block has none
 pub record Unmistaken (p : Profile) (c y : Series) : Type 0 where
   pub written : Codeword p c
-  pub never : (r : ℕ) → r ≤ p .nested → Reached p c y r → (i : ℕ) → i < p .subwords → capability p r < differences p y c i
+  pub never : (r : ℕ) → r ≤ p .nested → Reached p c y r → (i : ℕ) → i < p .subwords
+      → capability p r < differences p y c i
       → settle (capability p r) (p .length) (syndrome (p .length) (subword (p .length) (y ⊞ c) i)) ≡ none
 
 pub record Restorable (p : Profile) (c y : Series) : Type 0 where

@@ -1,7 +1,8 @@
 -- A written block is restored: FORMAT 6.11.
 --
--- Proved: what was received comes back as the codeword that was written, if it is restorable (restoring, restoring-bytes); so it does if no subword
--- has more than t0 changes (restoring-within). Where no mistake is made the outcome is never foreign (not-foreign).
+-- Proved: what was received comes back as the codeword that was written, if it is restorable (restoring,
+-- restoring-bytes); so it does if no subword has more than t0 changes (restoring-within). Where no mistake is made the
+-- outcome is never foreign (not-foreign).
 use Prim.Native.Nat.{ℕ, suc, _≤_, _<_}
 use mathlib.Core.Path.{_≡_, sym, ap, _∙_, fun-ext}
 use mathlib.Core.Logic.{_≢_}
@@ -20,10 +21,12 @@ use Rattle.profile.specs.Definition.{capability, block-size}
 use Rattle.profile.specs.Valid.{Valid, capability-mono}
 use Rattle.code.specs.Definition.{Codeword}
 use Rattle.code.specs.Block.{Agree, block-agree, codeword-cong}
-use Rattle.staged_decoding.specs.Definition.{Line, clean, line-of, count-of, line-at, Report, report, accepted, foreign, decode, differences}
+use Rattle.staged_decoding.specs.Definition.{Line, clean, line-of, count-of, line-at, Report, report}
+use Rattle.staged_decoding.specs.Definition.{accepted, foreign, decode, differences}
 use Rattle.staged_decoding.specs.Count.{none-count, total-cong}
 use Rattle.staged_decoding.specs.Stage.{line-of-is}
-use Rattle.staged_decoding.specs.Course.{after-stage, Over, Accepts, Course, accepting, failing, rejecting, course, accepted-course, foreign-course}
+use Rattle.staged_decoding.specs.Course.{after-stage, Over, Accepts, Course, accepting, failing, rejecting}
+use Rattle.staged_decoding.specs.Course.{course, accepted-course, foreign-course}
 use Rattle.staged_decoding.specs.Sound.{line-there}
 use Rattle.staged_decoding.specs.Accepted.{accepted-past}
 use Rattle.staged_decoding.specs.Restorable.{beyond, Reached, Unmistaken, Restorable, Restored}
@@ -35,7 +38,8 @@ module _ (p : Profile) (ok : Valid p) (c y : Series) (u : Unmistaken p c y) wher
     reached : Reached p c y s
     reached = entered-reached p ok c y u s (over .low) (over .entered)
 
-    done : (i : ℕ) → i < p .subwords → (l : Line) × (after-stage p y s .line i ≡ some l) × Done p c y (suc s) (after-stage p y s) i l
+    done : (i : ℕ) → i < p .subwords
+        → (l : Line) × (after-stage p y s .line i ≡ some l) × Done p c y (suc s) (after-stage p y s) i l
     done i h =
         let (l, f) = line-there p (after-stage p y s) (over .none-left) i h in
         (l, f, rw f at (fates-after p ok c y u s (over .low) reached i h))
@@ -43,14 +47,16 @@ module _ (p : Profile) (ok : Valid p) (c y : Series) (u : Unmistaken p c y) wher
     agrees : Agree p 0 (after-stage p y s .block) c
     agrees i z h q l = done i h .2 .same q l
 
-    line-is : (i : ℕ) (h : i < p .subwords) → line-at (after-stage p y s) i ≡ line-of (done i h .2 .stage) (differences p y c i)
+    line-is : (i : ℕ) (h : i < p .subwords)
+        → line-at (after-stage p y s) i ≡ line-of (done i h .2 .stage) (differences p y c i)
     line-is i h = ap (λ o. Option·getD o clean) (done i h .1) ∙ done i h .2 .line-is
 
     restored : Restored p c y (report p s (after-stage p y s))
     unfolding report
     restored = record {
       line = λ i h. (done i h .2 .stage, done i h .2 .least, line-is i h);
-      changed = total-cong (p .subwords) _ _ (λ i h. ap count-of (line-is i h) ∙ line-of-is (done i h .2 .stage) (differences p y c i) .0);
+      changed = total-cong (p .subwords) _ _
+          (λ i h. ap count-of (line-is i h) ∙ line-of-is (done i h .2 .stage) (differences p y c i) .0);
       last = (over .low, reached, sym (unsettled-beyond p ok c y u s (over .low) reached) ∙ over .none-left);
     }
 
@@ -60,7 +66,8 @@ module _ (p : Profile) (ok : Valid p) (c y : Series) (u : Unmistaken p c y) wher
       f .no-code (codeword-cong p c _ (λ i z h q l. sym (agrees (f .last) (f .over) i z h q l)) (u .written))
 
   -- an accepted block is the written one
-  pub accepted-restores : ((a : ℕ) → block-size p ≤ a → y a ≡ c a) → (d : Series) (x : Report) → decode p y ≡ accepted d x
+  pub accepted-restores : ((a : ℕ) → block-size p ≤ a → y a ≡ c a) → (d : Series) (x : Report)
+      → decode p y ≡ accepted d x
       → (decode p y ≡ accepted c x) × Restored p c y x
   accepted-restores past d x e =
       let a = accepted-course p y d x .0 e in
@@ -71,7 +78,8 @@ module _ (p : Profile) (ok : Valid p) (c y : Series) (u : Unmistaken p c y) wher
       same a k (yes l) = ap (λ (s : Series). s k) (a .block) ∙ block-agree p _ c (agrees (a .last) (a .over)) k l
       same a k (no l) = accepted-past p y d x e k (omega arith) ∙ past k (omega arith)
 
--- The promise of restoring. What stands past the first m × n symbols is not looked at, so it has to be the same from the start.
+-- The promise of restoring. What stands past the first m × n symbols is not looked at, so it has to be the same from
+-- the start.
 pub restoring : (p : Profile) → Valid p → (c y : Series) → ((a : ℕ) → block-size p ≤ a → y a ≡ c a) → Restorable p c y
     → (x : Report) × (decode p y ≡ accepted c x) × Restored p c y x
 restoring p ok c y past r = go (course p y)
@@ -85,16 +93,19 @@ restoring p ok c y past r = go (course p y)
         absurd (omega (arith, f .many, unsettled-beyond p ok c y (r .unmistaken) s (f .low) reached, r .few s (f .low)))
     go (rejecting f) = absurd (not-foreign p ok c y (r .unmistaken) (foreign-course p y .1 f))
 
-pub restoring-bytes : (p : Profile) → Valid p → (c y : List ℕ) → length c ≡ block-size p → length y ≡ block-size p → Restorable p (bytes c) (bytes y)
+pub restoring-bytes : (p : Profile) → Valid p → (c y : List ℕ) → length c ≡ block-size p → length y ≡ block-size p
+    → Restorable p (bytes c) (bytes y)
     → (x : Report) × (decode p (bytes y) ≡ accepted (bytes c) x) × Restored p (bytes c) (bytes y) x
-restoring-bytes p ok c y lc ly = restoring p ok (bytes c) (bytes y) (λ a h. zero y a (omega arith) ∙ sym (zero c a (omega arith)))
+restoring-bytes p ok c y lc ly =
+    restoring p ok (bytes c) (bytes y) (λ a h. zero y a (omega arith) ∙ sym (zero c a (omega arith)))
   where
     zero : (l : List ℕ) → below (length l) (bytes l)
     zero = below-read of 0 of-zero
 
 -- ---- within the first capability
 
-beyond-none : (p : Profile) → Valid p → (c y : Series) → ((i : ℕ) → i < p .subwords → differences p y c i ≤ capability p 0)
+beyond-none : (p : Profile) → Valid p → (c y : Series)
+    → ((i : ℕ) → i < p .subwords → differences p y c i ≤ capability p 0)
     → (r : ℕ) → r ≤ p .nested → beyond p c y r ≡ 0
 unfolding beyond
 beyond-none p ok c y h r low =
@@ -112,7 +123,8 @@ within-restorable p ok c y code h = record {
 }
 
 -- every subword within t0: no other condition
-pub restoring-within : (p : Profile) → Valid p → (c y : Series) → ((a : ℕ) → block-size p ≤ a → y a ≡ c a) → Codeword p c
+pub restoring-within : (p : Profile) → Valid p → (c y : Series)
+    → ((a : ℕ) → block-size p ≤ a → y a ≡ c a) → Codeword p c
     → ((i : ℕ) → i < p .subwords → differences p y c i ≤ capability p 0)
     → (x : Report) × (decode p y ≡ accepted c x) × Restored p c y x × (x .last ≡ 0)
 restoring-within p ok c y past code h =

@@ -2,9 +2,10 @@
 --
 --   Meets p g j S   the values S solve the equations of FORMAT 6.6 for S_j of the unsettled subwords
 --
--- Proved: what stands in a window and around it (window-in, window-low, window-high), and one place more (window-none, window-more); only the rows of
--- unsettled subwords go on (extend-open, extend-settled, extend-past), and no syndrome below changes (extend-low). For a valid profile the new
--- syndromes solve that system (system-solves), and nothing else does (system-unique).
+-- Proved: what stands in a window and around it (window-in, window-low, window-high), and one place more (window-none,
+-- window-more); only the rows of unsettled subwords go on (extend-open, extend-settled, extend-past), and no syndrome
+-- below changes (extend-low). For a valid profile the new syndromes solve that system (system-solves), and nothing else
+-- does (system-unique).
 use Prim.Native.Nat.{ℕ, _+_, _*_, _≤_, _<_}
 use mathlib.Core.Path.{_≡_, refl, sym, ap, _∙_, fun-ext}
 use mathlib.Core.Logic.{by-cases}
@@ -22,7 +23,8 @@ use Rattle.profile.specs.declared.Profile.{Profile}
 use Rattle.profile.specs.Valid.{Valid}
 use Rattle.code.specs.Word.{syndrome}
 use Rattle.code.specs.Definition.{nested}
-use Rattle.staged_decoding.specs.Definition.{nth, put, Line, Progress, open?, unsettled, node, system, fresh, window, extend}
+use Rattle.staged_decoding.specs.Definition.{nth, put, Line, Progress, open?, unsettled}
+use Rattle.staged_decoding.specs.Definition.{node, system, fresh, window, extend}
 use Rattle.staged_decoding.specs.Count.{nth-lt, nth-rising}
 use Rattle.staged_decoding.specs.Stage.{put-same, put-other}
 
@@ -42,19 +44,22 @@ module _ (a b : ℕ) (g f : Series) where
   window-in j h l = rw (le-leb a j h, lt-ltb j b l)
 
 pub window-none : (a : ℕ) (g f : Series) → window a a g f ≡ f
-window-none a g f = fun-ext (λ j. by-cases (decLt j a) (window-low a a g f j) (λ l. window-high a a g f j (omega arith)))
+window-none a g f =
+    fun-ext (λ j. by-cases (decLt j a) (window-low a a g f j) (λ l. window-high a a g f j (omega arith)))
 
 pub window-more : (a b : ℕ) (g f : Series) → a ≤ b → window a (b + 1) g f ≡ put b (g b) (window a b g f)
 window-more a b g f h = fun-ext (λ j. go j (ℕ-discrete j b) (decLt j a) (decLt j b))
   where
     go : (j : ℕ) → Dec (j ≡ b) → Dec (j < a) → Dec (j < b) → window a (b + 1) g f j ≡ put b (g b) (window a b g f) j
     go j (yes e) u v = rw e (window-in a (b + 1) g f b h (omega arith) ∙ sym (put-same b (g b) (window a b g f)))
-    go j (no e) (yes u) v = window-low a (b + 1) g f j u ∙ sym (put-other b (g b) (window a b g f) j e ∙ window-low a b g f j u)
+    go j (no e) (yes u) v = window-low a (b + 1) g f j u
+        ∙ sym (put-other b (g b) (window a b g f) j e ∙ window-low a b g f j u)
     go j (no e) (no u) (yes v) =
         window-in a (b + 1) g f j (omega arith) (omega arith)
         ∙ sym (put-other b (g b) (window a b g f) j e ∙ window-in a b g f j (omega arith) v)
     go j (no e) (no u) (no v) =
-        window-high a (b + 1) g f j (omega arith) ∙ sym (put-other b (g b) (window a b g f) j e ∙ window-high a b g f j (omega arith))
+        window-high a (b + 1) g f j (omega arith)
+        ∙ sym (put-other b (g b) (window a b g f) j e ∙ window-high a b g f j (omega arith))
 
 -- ---- rows
 
@@ -72,7 +77,8 @@ module _ (p : Profile) (a b : ℕ) (g : Progress) (i : ℕ) where
   extend-past h = rw (le-ltb i (p .subwords) h)
 
   -- whichever it is
-  extend-row : (P : Series → Type 0) → P (g .row i) → P (window a b (fresh p g i) (g .row i)) → P (extend p a b g .row i)
+  extend-row : (P : Series → Type 0) → P (g .row i) → P (window a b (fresh p g i) (g .row i))
+      → P (extend p a b g .row i)
   extend-row P x y = go (g .line i) refl (decLt i (p .subwords))
     where
       go : (o : Option Line) → g .line i ≡ o → Dec (i < p .subwords) → P (extend p a b g .row i)
@@ -89,13 +95,15 @@ module _ (p : Profile) (a b : ℕ) (g : Progress) (i : ℕ) where
 abbrev pub Meets : Profile → Progress → ℕ → (ℕ → F) → Type 0
 Meets p g j S =
     (l : ℕ) → l < unsettled p g
-    → sum (unsettled p g) (λ w. pow α (nth (p .subwords) (open? g) w * l) ⊙ S w) ≡ syndrome (p .length) (nested p (g .block) l) j
+    → sum (unsettled p g) (λ w. pow α (nth (p .subwords) (open? g) w * l) ⊙ S w)
+    ≡ syndrome (p .length) (nested p (g .block) l) j
 
 module _ (p : Profile) (ok : Valid p) (g : Progress) where
   nodes-distinct : Distinct (unsettled p g) (node p g)
   unfolding node unsettled
   nodes-distinct u w l h e =
-      let rise : nth (p .subwords) (open? g) u < nth (p .subwords) (open? g) w = nth-rising (p .subwords) (open? g) u w l h in
+      let rise : nth (p .subwords) (open? g) u < nth (p .subwords) (open? g) w =
+      nth-rising (p .subwords) (open? g) u w l h in
       let most : nth (p .subwords) (open? g) w < p .subwords = nth-lt (p .subwords) (open? g) w h in
       let same : nth (p .subwords) (open? g) u ≡ nth (p .subwords) (open? g) w =
       power-inj _ _ (omega (arith, ok .subwords .1)) (omega (arith, ok .subwords .1)) e in
@@ -103,9 +111,11 @@ module _ (p : Profile) (ok : Valid p) (g : Progress) where
 
   -- the powers of FORMAT 6.6 are the system's
   powers : (S : ℕ → F) (l : ℕ)
-      → sum (unsettled p g) (λ w. pow (node p g w) l ⊙ S w) ≡ sum (unsettled p g) (λ w. pow α (nth (p .subwords) (open? g) w * l) ⊙ S w)
+      → sum (unsettled p g) (λ w. pow (node p g w) l ⊙ S w)
+      ≡ sum (unsettled p g) (λ w. pow α (nth (p .subwords) (open? g) w * l) ⊙ S w)
   unfolding node
-  powers S l = sum-cong (unsettled p g) _ _ (λ w h. ap (λ x. x ⊙ S w) (sym (pow-mul α (nth (p .subwords) (open? g) w) l)))
+  powers S l =
+      sum-cong (unsettled p g) _ _ (λ w h. ap (λ x. x ⊙ S w) (sym (pow-mul α (nth (p .subwords) (open? g) w) l)))
 
   pub system-solves : (j : ℕ) → Meets p g j (system p g j)
   unfolding system
@@ -114,5 +124,6 @@ module _ (p : Profile) (ok : Valid p) (g : Progress) where
   pub system-unique : (j : ℕ) (S : ℕ → F) → Meets p g j S → (w : ℕ) → w < unsettled p g → system p g j w ≡ S w
   unfolding system
   system-unique j S m w h =
-      solution-unique (unsettled p g) (node p g) _ _ S nodes-distinct (solution-solves (unsettled p g) (node p g) _ nodes-distinct)
+      solution-unique (unsettled p g) (node p g) _ _ S nodes-distinct
+      (solution-solves (unsettled p g) (node p g) _ nodes-distinct)
       (λ l k. powers S l ∙ m l k) w h

@@ -1,10 +1,12 @@
 -- What holds of each subword along the way, whatever was received.
 --
---   Settled p y r g i l   subword i was settled at a stage before r: what was added to it has the syndromes of its row, and l is its line
+--   Settled p y r g i l   subword i was settled at a stage before r: what was added to it has the syndromes of its row,
+--                         and l is its line
 --   Told p y r g i o      that, if the line o of subword i is there; else it has its received symbols
 --   Sound p y r g         so for every subword
 --
--- Proved: it holds before and after each stage (sound-before, sound-after); where no subword is left every one has its line (line-there).
+-- Proved: it holds before and after each stage (sound-before, sound-after); where no subword is left every one has its
+-- line (line-there).
 use Prim.Native.Nat.{ℕ, zero, suc, _≤_, _<_}
 use mathlib.Core.Path.{_≡_, refl, sym, ap, _∙_}
 use mathlib.Core.Bool.{false, true≢false}
@@ -19,9 +21,11 @@ use Rattle.profile.specs.Definition.{capability}
 use Rattle.code.specs.Definition.{subword}
 use Rattle.settling.specs.Definition.{Explains}
 use Rattle.settling.specs.Settle.{explains-cong}
-use Rattle.staged_decoding.specs.Definition.{Line, line-of, Progress, start, unsettled-line, open?, unsettled, found, stage, extend}
+use Rattle.staged_decoding.specs.Definition.{Line, line-of, Progress, start, unsettled-line, open?}
+use Rattle.staged_decoding.specs.Definition.{unsettled, found, stage, extend}
 use Rattle.staged_decoding.specs.Count.{count-none}
-use Rattle.staged_decoding.specs.Stage.{found-settled, found-some, stage-row, stage-line, stage-subword, stage-stays}
+use Rattle.staged_decoding.specs.Stage.{found-settled, found-some, stage-row}
+use Rattle.staged_decoding.specs.Stage.{stage-line, stage-subword, stage-stays}
 use Rattle.staged_decoding.specs.Round.{extend-settled}
 use Rattle.staged_decoding.specs.Course.{before-stage, after-stage}
 use Rattle.staged_decoding.specs.Differences.{subword-⊞}
@@ -45,7 +49,8 @@ module _ (p : Profile) (y : Series) where
 
   -- a settled subword stays as it is
   settled-stays : (r s : ℕ) (g h : Progress) (i : ℕ) (l : Line) → r ≤ s → h .row i ≡ g .row i
-      → ((q : ℕ) → q < n → subword n (h .block) i q ≡ subword n (g .block) i q) → Settled p y r g i l → Settled p y s h i l
+      → ((q : ℕ) → q < n → subword n (h .block) i q ≡ subword n (g .block) i q)
+      → Settled p y r g i l → Settled p y s h i l
   settled-stays r s g h i l u rows same x = record {
     stage = x .stage;
     passed = omega (arith, x .passed);
@@ -54,7 +59,8 @@ module _ (p : Profile) (y : Series) where
   }
     where
       sums : (q : ℕ) → q < n → subword n (y ⊞ g .block) i q ≡ subword n (y ⊞ h .block) i q
-      sums q m = subword-⊞ n y (g .block) i q ∙ sym (subword-⊞ n y (h .block) i q ∙ ap (λ t. subword n y i q ⊕ t) (same q m))
+      sums q m = subword-⊞ n y (g .block) i q
+          ∙ sym (subword-⊞ n y (h .block) i q ∙ ap (λ t. subword n y i q ⊕ t) (same q m))
 
   start-sound : Sound p y 0 (start p y)
   unfolding start
@@ -72,7 +78,8 @@ module _ (p : Profile) (y : Series) where
     settles w e same = record {
       stage = r;
       passed = omega arith;
-      explained = rw row-is (explains-cong (capability p r) n (g .row i) (entry w) _ sums (found-some p r g i w e .explains));
+      explained =
+          rw row-is (explains-cong (capability p r) n (g .row i) (entry w) _ sums (found-some p r g i w e .explains));
       line-is = ap (line-of r) (weight-cong n (entry w) _ sums);
     }
       where
@@ -80,7 +87,8 @@ module _ (p : Profile) (y : Series) where
         sums q l =
             sym
             (subword-⊞ n y (stage p r g .block) i q
-            ∙ ap (λ t. subword n y i q ⊕ t) (stage-subword p r g i h (some w) e q l ∙ ap (λ t. t ⊕ entry w q) (same q l))
+            ∙ ap (λ t. subword n y i q ⊕ t)
+            (stage-subword p r g i h (some w) e q l ∙ ap (λ t. t ⊕ entry w q) (same q l))
             ∙ ⊕-self-left _ _)
 
     stage-told : Told p y r g i (g .line i) → Told p y (suc r) (stage p r g) i (stage p r g .line i)
@@ -90,32 +98,37 @@ module _ (p : Profile) (y : Series) where
             → Told p y (suc r) (stage p r g) i (stage p r g .line i)
         go (some l) e w f t =
             let z : found p r g i ≡ none = found-settled p r g i l e in
-            rw (stage-line p r g i h (some l) none e z) (settled-stays r (suc r) g (stage p r g) i l (omega arith) row-is (stage-stays p r g i h z) t)
+            rw (stage-line p r g i h (some l) none e z)
+            (settled-stays r (suc r) g (stage p r g) i l (omega arith) row-is (stage-stays p r g i h z) t)
         go none e none f t = rw (stage-line p r g i h none none e f) (λ q l. stage-stays p r g i h f q l ∙ t q l)
         go none e (some w) f t = rw (stage-line p r g i h none (some w) e f) (settles w f t)
 
   -- ---- a round
 
-  round-told : (r a b : ℕ) (g : Progress) (i : ℕ) → Told p y r g i (g .line i) → Told p y r (extend p a b g) i (extend p a b g .line i)
+  round-told : (r a b : ℕ) (g : Progress) (i : ℕ) → Told p y r g i (g .line i)
+      → Told p y r (extend p a b g) i (extend p a b g .line i)
   unfolding extend
   round-told r a b g i t = go (g .line i) refl t
     where
       go : (o : Option Line) → g .line i ≡ o → Told p y r g i o → Told p y r (extend p a b g) i o
       go none e t = t
-      go (some l) e t = settled-stays r r g (extend p a b g) i l (omega arith) (extend-settled p a b g i l e) (λ q m. refl) t
+      go (some l) e t =
+          settled-stays r r g (extend p a b g) i l (omega arith) (extend-settled p a b g i l e) (λ q m. refl) t
 
   -- ---- every stage
 
   pub sound-before : (r : ℕ) → Sound p y r (before-stage p y r)
   unfolding before-stage
   sound-before zero = start-sound
-  sound-before (suc r) = λ i h. round-told (suc r) _ _ (after-stage p y r) i (stage-told r (before-stage p y r) i h (sound-before r i h))
+  sound-before (suc r) =
+      λ i h. round-told (suc r) _ _ (after-stage p y r) i (stage-told r (before-stage p y r) i h (sound-before r i h))
 
   pub sound-after : (r : ℕ) → Sound p y (suc r) (after-stage p y r)
   sound-after r i h = stage-told r (before-stage p y r) i h (sound-before r i h)
 
 -- no subword is left
-pub line-there : (p : Profile) (g : Progress) → unsettled p g ≡ 0 → (i : ℕ) → i < p .subwords → (l : Line) × (g .line i ≡ some l)
+pub line-there : (p : Profile) (g : Progress) → unsettled p g ≡ 0 → (i : ℕ) → i < p .subwords
+    → (l : Line) × (g .line i ≡ some l)
 unfolding unsettled
 line-there p g e i h = go (g .line i) refl (count-none (p .subwords) (open? g) e i h)
   where

@@ -3,10 +3,11 @@
 --   pattern w            the pattern found, as a series; zeros if none was
 --   line-after r n o w   the line of a subword after stage r, o being its line before and w the pattern found
 --
--- Proved: the count and stage of a line (line-of-is); a pattern added to a subword changes no other (add-same, add-other) and nothing past the block
--- (add-past); what is found explains the row of an unsettled subword (found-some), and a settled one stays
--- (found-settled); a step is to do nothing or to take the pattern (step-none, step-some); a stage is that for every subword (stage-line,
--- stage-subword, stage-stays), and leaves the rows (stage-row) and all that is no subword's (stage-past, stage-line-past).
+-- Proved: the count and stage of a line (line-of-is); a pattern added to a subword changes no other (add-same,
+-- add-other) and nothing past the block (add-past); what is found explains the row of an unsettled subword
+-- (found-some), and a settled one stays (found-settled); a step is to do nothing or to take the pattern (step-none,
+-- step-some); a stage is that for every subword (stage-line, stage-subword, stage-stays), and leaves the rows
+-- (stage-row) and all that is no subword's (stage-past, stage-line-past).
 use Prim.Native.Nat.{ℕ, zero, suc, _+_, _-_, _*_, _≤_, _<_}
 use mathlib.Core.Path.{_≡_, refl, sym, ap, ap₂, _∙_}
 use mathlib.Core.Logic.{_≢_, if-pos, if-neg}
@@ -82,13 +83,17 @@ add-at n i e s a = ⊞-at s _ a
 
 -- past the subword
 past : (n i : ℕ) (e : Series) → below n e → (a : ℕ) → i * n + n ≤ a → (zpow (i * n) ⊠ e) a ≡ 𝟎
-past n i e b a h = let f : a ≡ i * n + (a - i * n) = omega arith in ap (zpow (i * n) ⊠ e) f ∙ zpow-at (i * n) e _ ∙ b (a - i * n) (omega arith)
+past n i e b a h =
+    let f : a ≡ i * n + (a - i * n) = omega arith in
+    ap (zpow (i * n) ⊠ e) f ∙ zpow-at (i * n) e _ ∙ b (a - i * n) (omega arith)
 
 pub add-same : (n i : ℕ) (e s : Series) (q : ℕ) → subword n (add n i e s) i q ≡ subword n s i q ⊕ e q
 add-same n i e s q =
-    subword-at n (add n i e s) i q ∙ add-at n i e s (i * n + q) ∙ ap₂ _⊕_ (sym (subword-at n s i q)) (zpow-at (i * n) e q)
+    subword-at n (add n i e s) i q ∙ add-at n i e s (i * n + q)
+    ∙ ap₂ _⊕_ (sym (subword-at n s i q)) (zpow-at (i * n) e q)
 
-pub add-other : (n i : ℕ) (e s : Series) → below n e → (k q : ℕ) → k ≢ i → q < n → subword n (add n i e s) k q ≡ subword n s k q
+pub add-other : (n i : ℕ) (e s : Series) → below n e → (k q : ℕ) → k ≢ i → q < n
+    → subword n (add n i e s) k q ≡ subword n s k q
 add-other n i e s b k q d l =
     subword-at n (add n i e s) k q
     ∙ add-at n i e s (k * n + q)
@@ -103,11 +108,13 @@ add-other n i e s b k q d l =
 
 pub add-past : (m n i : ℕ) (e s : Series) → below n e → i < m → (a : ℕ) → m * n ≤ a → add n i e s a ≡ s a
 add-past m n i e s b h a l =
-    add-at n i e s a ∙ ap (λ t. s a ⊕ t) (past n i e b a (omega (arith, suc-mul i n, mul-le-mul-right n h))) ∙ ⊕-zero (s a)
+    add-at n i e s a
+    ∙ ap (λ t. s a ⊕ t) (past n i e b a (omega (arith, suc-mul i n, mul-le-mul-right n h))) ∙ ⊕-zero (s a)
 
 -- ---- what is found
 
-pub found-open : (p : Profile) (r : ℕ) (g : Progress) (i : ℕ) → g .line i ≡ none → found p r g i ≡ settle (capability p r) (p .length) (g .row i)
+pub found-open : (p : Profile) (r : ℕ) (g : Progress) (i : ℕ) → g .line i ≡ none
+    → found p r g i ≡ settle (capability p r) (p .length) (g .row i)
 unfolding found
 found-open p r g i e = rw e
 
@@ -133,10 +140,12 @@ pub below-entry : (n : ℕ) (w : List F) → length w ≡ n → below n (entry w
 below-entry n w l i h = entry-past w i (omega arith)
 
 -- a subword's line and row decide
-found-cong : (p : Profile) (r : ℕ) (g h : Progress) (i : ℕ) → g .line i ≡ h .line i → g .row ≡ h .row → found p r g i ≡ found p r h i
+found-cong : (p : Profile) (r : ℕ) (g h : Progress) (i : ℕ) → g .line i ≡ h .line i → g .row ≡ h .row
+    → found p r g i ≡ found p r h i
 unfolding found
 found-cong p r g h i e f =
-    ap₂ (λ (o : Option Line) (s : ℕ → Series). cond (unsettled-line o) (settle (capability p r) (p .length) (s i)) none) e f
+    ap₂ (λ (o : Option Line) (s : ℕ → Series). cond (unsettled-line o) (settle (capability p r) (p .length) (s i)) none)
+    e f
 
 -- ---- one subword
 
@@ -144,7 +153,8 @@ pub step-none : (p : Profile) (r i : ℕ) (g : Progress) → found p r g i ≡ n
 unfolding step
 step-none p r i g e = ap (λ o. correct p r i o g) e
 
-pub step-some : (p : Profile) (r i : ℕ) (g : Progress) (w : List F) → found p r g i ≡ some w → step p r i g ≡ correct p r i (some w) g
+pub step-some : (p : Profile) (r i : ℕ) (g : Progress) (w : List F) → found p r g i ≡ some w
+    → step p r i g ≡ correct p r i (some w) g
 unfolding step
 step-some p r i g w e = ap (λ o. correct p r i o g) e
 
@@ -162,8 +172,10 @@ record Partly (p : Profile) (r k : ℕ) (g h : Progress) : Type 0 where
   row-is : h .row ≡ g .row
   line-done : (i : ℕ) → i < k → h .line i ≡ line-after r (p .length) (g .line i) (found p r g i)
   line-kept : (i : ℕ) → k ≤ i → h .line i ≡ g .line i
-  word-done : (i q : ℕ) → i < k → q < p .length → subword (p .length) (h .block) i q ≡ subword (p .length) (g .block) i q ⊕ pattern (found p r g i) q
-  word-kept : (i q : ℕ) → k ≤ i → q < p .length → subword (p .length) (h .block) i q ≡ subword (p .length) (g .block) i q
+  word-done : (i q : ℕ) → i < k → q < p .length
+      → subword (p .length) (h .block) i q ≡ subword (p .length) (g .block) i q ⊕ pattern (found p r g i) q
+  word-kept : (i q : ℕ) → k ≤ i → q < p .length
+      → subword (p .length) (h .block) i q ≡ subword (p .length) (g .block) i q
 
 module _ (p : Profile) (r : ℕ) (g : Progress) where
   -- subword k is next, and nothing is found for it; or w is
@@ -183,30 +195,37 @@ module _ (p : Profile) (r : ℕ) (g : Progress) where
       symbol : (i q : ℕ) → i < suc k → q < p .length → Dec (i ≡ k)
           → subword (p .length) (h .block) i q ≡ subword (p .length) (g .block) i q ⊕ pattern (found p r g i) q
       symbol i q l m (yes s) =
-          rw (s, e) (z .word-kept k q (omega arith) m ∙ sym (ap (λ t. subword (p .length) (g .block) k q ⊕ t) (O-at q) ∙ ⊕-zero _))
+          rw (s, e) (z .word-kept k q (omega arith) m
+          ∙ sym (ap (λ t. subword (p .length) (g .block) k q ⊕ t) (O-at q) ∙ ⊕-zero _))
       symbol i q l m (no s) = z .word-done i q (omega arith) m
 
-  take : (k : ℕ) (h : Progress) → Partly p r k g h → (w : List F) → found p r g k ≡ some w → Partly p r (suc k) g (correct p r k (some w) h)
+  take : (k : ℕ) (h : Progress) → Partly p r k g h → (w : List F) → found p r g k ≡ some w
+      → Partly p r (suc k) g (correct p r k (some w) h)
   take k h z w e = record {
     row-is = z .row-is;
     line-done = λ i l. line i l (ℕ-discrete i k);
     line-kept = λ i l. put-other k _ (h .line) i (omega arith) ∙ z .line-kept i (omega arith);
     word-done = λ i q l m. symbol i q l m (ℕ-discrete i k);
-    word-kept = λ i q l m. add-other (p .length) k (entry w) (h .block) small i q (omega arith) m ∙ z .word-kept i q (omega arith) m;
+    word-kept = λ i q l m.
+        add-other (p .length) k (entry w) (h .block) small i q (omega arith) m ∙ z .word-kept i q (omega arith) m;
   }
     where
       small : below (p .length) (entry w)
       small = below-entry (p .length) w (found-some p r g k w e .size)
 
-      line : (i : ℕ) → i < suc k → Dec (i ≡ k) → correct p r k (some w) h .line i ≡ line-after r (p .length) (g .line i) (found p r g i)
+      line : (i : ℕ) → i < suc k → Dec (i ≡ k)
+          → correct p r k (some w) h .line i ≡ line-after r (p .length) (g .line i) (found p r g i)
       line i l (yes s) = rw (s, e) (put-same k _ (h .line))
       line i l (no s) = put-other k _ (h .line) i s ∙ z .line-done i (omega arith)
 
       symbol : (i q : ℕ) → i < suc k → q < p .length → Dec (i ≡ k)
-          → subword (p .length) (correct p r k (some w) h .block) i q ≡ subword (p .length) (g .block) i q ⊕ pattern (found p r g i) q
+          → subword (p .length) (correct p r k (some w) h .block) i q
+          ≡ subword (p .length) (g .block) i q ⊕ pattern (found p r g i) q
       symbol i q l m (yes s) =
-          rw (s, e) (add-same (p .length) k (entry w) (h .block) q ∙ ap (λ t. t ⊕ entry w q) (z .word-kept k q (omega arith) m))
-      symbol i q l m (no s) = add-other (p .length) k (entry w) (h .block) small i q s m ∙ z .word-done i q (omega arith) m
+          rw (s, e)
+          (add-same (p .length) k (entry w) (h .block) q ∙ ap (λ t. t ⊕ entry w q) (z .word-kept k q (omega arith) m))
+      symbol i q l m (no s) = add-other (p .length) k (entry w) (h .block) small i q s m
+          ∙ z .word-done i q (omega arith) m
 
   partly : (k : ℕ) → Partly p r k g (each k (step p r) g)
   unfolding each
@@ -219,9 +238,12 @@ module _ (p : Profile) (r : ℕ) (g : Progress) where
   }
   partly (suc k) = go (each k (step p r) g) (partly k) (found p r g k) refl
     where
-      go : (h : Progress) → Partly p r k g h → (o : Option (List F)) → found p r g k ≡ o → Partly p r (suc k) g (step p r k h)
-      go h z none e = rw (step-none p r k h (found-cong p r h g k (z .line-kept k (omega arith)) (z .row-is) ∙ e)) (keep k h z e)
-      go h z (some w) e = rw (step-some p r k h w (found-cong p r h g k (z .line-kept k (omega arith)) (z .row-is) ∙ e)) (take k h z w e)
+      go : (h : Progress) → Partly p r k g h → (o : Option (List F)) → found p r g k ≡ o
+          → Partly p r (suc k) g (step p r k h)
+      go h z none e =
+          rw (step-none p r k h (found-cong p r h g k (z .line-kept k (omega arith)) (z .row-is) ∙ e)) (keep k h z e)
+      go h z (some w) e = rw (step-some p r k h w (found-cong p r h g k (z .line-kept k (omega arith)) (z .row-is) ∙ e))
+          (take k h z w e)
 
   -- ---- all subwords
 
@@ -230,7 +252,8 @@ module _ (p : Profile) (r : ℕ) (g : Progress) where
   stage-row = partly (p .subwords) .row-is
 
   module _ (i : ℕ) (h : i < p .subwords) where
-    pub stage-line : (o : Option Line) (w : Option (List F)) → g .line i ≡ o → found p r g i ≡ w → stage p r g .line i ≡ line-after r (p .length) o w
+    pub stage-line : (o : Option Line) (w : Option (List F)) → g .line i ≡ o → found p r g i ≡ w
+        → stage p r g .line i ≡ line-after r (p .length) o w
     unfolding stage
     stage-line o w e f = partly (p .subwords) .line-done i h ∙ ap₂ (line-after r (p .length)) e f
 

@@ -1,8 +1,8 @@
 -- The solver of a subword from stage to stage.
 --
--- Proved, for a valid profile: a solver at its start is ready for stage 0 (ready-start), and one at the end of stage r for stage r + 1
--- (ready-next); one that is ready, taken through the syndromes that the stage adds, is at the end of the stage (ready-advance), and what it has
--- found there is what settles the subword (kept).
+-- Proved, for a valid profile: a solver at its start is ready for stage 0 (ready-start), and one at the end of stage r
+-- for stage r + 1 (ready-next); one that is ready, taken through the syndromes that the stage adds, is at the end of
+-- the stage (ready-advance), and what it has found there is what settles the subword (kept).
 use Prim.Native.Nat.{ℕ, zero, suc, _-_, _*_, _≤_, _<_}
 use mathlib.Core.Path.{_≡_, refl, ap, subst}
 use mathlib.Core.Logic.{_≢_}
@@ -27,7 +27,8 @@ use Rattle.solver.specs.ContinuationDefinition.{Ended, Advanced, ended-start}
 use Rattle.solver.specs.ContinuationStages.{stage-first, stage-next}
 use Rattle.stages.specs.AttemptDefinition.{seen-before, Ready, Tried}
 
-pub ready-start : (p : Profile) (f : Form) (S : Series) (s : Solver) → Is f 0 s (form-of f .start) → below (2 * capability p 0) S → Ready p f 0 S s
+pub ready-start : (p : Profile) (f : Form) (S : Series) (s : Solver)
+    → Is f 0 s (form-of f .start) → below (2 * capability p 0) S → Ready p f 0 S s
 ready-start p f S s is past = record { ended = ended-start f s is; past = past }
 
 module _ (p : Profile) (ok : Valid p) (f : Form) (S : Series) (s : Solver) where
@@ -39,11 +40,13 @@ module _ (p : Profile) (ok : Valid p) (f : Form) (S : Series) (s : Solver) where
     past = past;
   }
 
-  pub ready-advance : (r : ℕ) (q : Solver) → r ≤ p .nested → Advanced (seen-before p r) (2 * capability p r) S s q → Ready p f r S s
+  pub ready-advance : (r : ℕ) (q : Solver)
+      → r ≤ p .nested → Advanced (seen-before p r) (2 * capability p r) S s q → Ready p f r S s
       → Ended f (rounds-of p S r) q
   unfolding Ended finish events after joined
   ready-advance zero q h advanced ready = stage-first p ok f S s q (ready .past) (ready .ended) advanced
-  ready-advance (suc r) q h advanced ready = stage-next p ok f S s q r S h (ready .past) (λ j l. refl) (ready .ended) advanced
+  ready-advance (suc r) q h advanced ready =
+      stage-next p ok f S s q r S h (ready .past) (λ j l. refl) (ready .ended) advanced
 
 -- ---- what `attempt` promises, from what its parts promise
 
@@ -55,7 +58,8 @@ module _ (p : Profile) (r : ℕ) where
   seen-before-next h = let e : r ≡ suc (r - 1) = omega (arith, h) in ap (seen-before p) e
 
 module _ (p : Profile) (ok : Valid p) (r : ℕ) (h : r ≤ p .nested) (S : Series) (s q : Solver) (a : Settled) where
-  pub kept : (u v t : ℕ) → u ≡ seen-before p r → v ≡ 2 * capability p r → t ≡ capability p r → Advanced u v S s q → Tried t (p .length) S q a
+  pub kept : (u v t : ℕ) → u ≡ seen-before p r → v ≡ 2 * capability p r → t ≡ capability p r → Advanced u v S s q
+      → Tried t (p .length) S q a
       → Sound (capability p r) (p .length) S a
       × (((f : Form) → Ready p f r S s → answer (p .length) a ≡ settle (capability p r) (p .length) S)
       × ((f : Form) → Ready p f r S s → Ended f (rounds-of p S r) q))
@@ -64,4 +68,5 @@ module _ (p : Profile) (ok : Valid p) (r : ℕ) (h : r ≤ p .nested) (S : Serie
       (at .0, (λ f ready. at .1 f _ (end f ready) (rounds-joined p ok S r h), end))
     where
       end : (f : Form) → Ready p f r S s → Ended f (rounds-of p S r) q
-      end f = ready-advance p ok f S s r q h (subst (λ u. Advanced u (2 * capability p r) S s q) eu (subst (λ v. Advanced u v S s q) ev advanced))
+      end f = ready-advance p ok f S s r q h
+          (subst (λ u. Advanced u (2 * capability p r) S s q) eu (subst (λ v. Advanced u v S s q) ev advanced))

@@ -1,8 +1,8 @@
 -- Lines in an array, and the progress that they show.
 --
 -- Proved: what stands at a place (has, has-same, has-other); eight lines at their start (started);
--- what lines say and show after a store (says-same, says-other, shown-set); the changed symbols are counted line by line
--- (changed-none, changed-more).
+-- what lines say and show after a store (says-same, says-other, shown-set); the changed symbols are counted line by
+-- line (changed-none, changed-more).
 use Prim.Native.Nat.{ℕ, zero, suc, _+_, _≤_, _<_}
 use mathlib.Core.Path.{_≡_, refl, sym, ap, _∙_, fun-ext, subst}
 use mathlib.Core.Logic.{_≢_}
@@ -12,7 +12,8 @@ use mathlib.Core.Option.{none, some}
 use native.Mathlib.Decide.{decLt, ℕ-discrete}
 use native.Mathlib.Numerals.{add-one}
 use native.Mathlib.Omega.{arith}
-use lib.ListN.{length, getD, set, replicate, length-set, length-map, length-replicate, getD-replicate, List·getD-map, List·getD-eq-default}
+use lib.ListN.{length, getD, set, replicate, length-set, length-map, length-replicate, getD-replicate}
+use lib.ListN.{List·getD-map, List·getD-eq-default}
 use lib.Seq.{getD-set-same, getD-set-other}
 use Rattle.solver.specs.declared.Form.{Form}
 use Rattle.solver.specs.declared.Solver.{Solver}
@@ -41,26 +42,31 @@ pub has-same : (lines : List Line) (i : ℕ) (l x : Line) → i < length lines �
 has-same lines i l x h (_, is) = sym (is l) ∙ getD-set-same lines i l l h
 
 pub has-other : (lines : List Line) (i k : ℕ) (l x : Line) → k ≢ i → Has (set lines i l) k x → Has lines k x
-has-other lines i k l x n (h, is) = (omega (arith, length-set lines i l), λ d. sym (getD-set-other lines i k l d n) ∙ is d)
+has-other lines i k l x n (h, is) =
+    (omega (arith, length-set lines i l), λ d. sym (getD-set-other lines i k l d n) ∙ is d)
 
 -- ---- what lines say
 
 pub says-at : (lines : List Line) (i : ℕ) (l : Line) → Has lines i l → says lines i ≡ verdict-of (l .verdict)
 unfolding says
 says-at lines i l (h, is) =
-    any-default (map (λ l. verdict-of (l .verdict)) lines) i staged.clean (verdict-of (l .verdict)) (omega (arith, length-map lines (λ l. verdict-of (l .verdict))))
+    any-default (map (λ l. verdict-of (l .verdict)) lines) i staged.clean (verdict-of (l .verdict))
+    (omega (arith, length-map lines (λ l. verdict-of (l .verdict))))
     ∙ List·getD-map (λ l. verdict-of (l .verdict)) lines i l
     ∙ ap (λ (l : Line). verdict-of (l .verdict)) (is l)
 
 says-past : (lines : List Line) (i : ℕ) → length lines ≤ i → says lines i ≡ staged.clean
 unfolding says
 says-past lines i h =
-    List·getD-eq-default (map (λ l. verdict-of (l .verdict)) lines) staged.clean (omega (arith, length-map lines (λ l. verdict-of (l .verdict))))
+    List·getD-eq-default (map (λ l. verdict-of (l .verdict)) lines) staged.clean
+    (omega (arith, length-map lines (λ l. verdict-of (l .verdict))))
 
-pub started : (f : Form) (s : Solver) → Is f 0 s (form-of f .start) → Started f (replicate 8 (record { verdict = Clean; solver = s }))
+pub started : (f : Form) (s : Solver) → Is f 0 s (form-of f .start)
+    → Started f (replicate 8 (record { verdict = Clean; solver = s }))
 started f s h = record {
   long = length-replicate 8 l;
-  solvers = λ i x (m, is). subst (λ (x : Line). Ended f [] (x .solver)) (sym (getD-replicate 8 i l x (omega (arith, m, length-replicate 8 l))) ∙ is x) (ended-start f s h);
+  solvers = λ i x (m, is). subst (λ (x : Line). Ended f [] (x .solver))
+      (sym (getD-replicate 8 i l x (omega (arith, m, length-replicate 8 l))) ∙ is x) (ended-start f s h);
   says = λ i. all i (decLt i 8);
 }
   where
@@ -82,17 +88,21 @@ module _ (lines : List Line) (k : ℕ) (l : Line) (h : k < length lines) where
     where
       go : Dec (i < length lines) → says (set lines k l) i ≡ says lines i
       go (yes m) =
-          says-at (set lines k l) i (getD lines i l) (omega (arith, length-set lines k l), λ d. getD-set-other lines k i l d n ∙ any-default lines i d l m)
+          says-at (set lines k l) i (getD lines i l)
+          (omega (arith, length-set lines k l), λ d. getD-set-other lines k i l d n ∙ any-default lines i d l m)
           ∙ sym (says-at lines i (getD lines i l) (has lines i l m))
-      go (no m) = says-past (set lines k l) i (omega (arith, length-set lines k l)) ∙ sym (says-past lines i (omega arith))
+      go (no m) = says-past (set lines k l) i (omega (arith, length-set lines k l))
+          ∙ sym (says-past lines i (omega arith))
 
   module _ (pending : List Bool) (x : Bool) (g : k < length pending) where
-    pub shown-set : shown (set pending k x) (set lines k l) ≡ put k (cond x none (some (verdict-of (l .verdict)))) (shown pending lines)
+    pub shown-set : shown (set pending k x) (set lines k l)
+        ≡ put k (cond x none (some (verdict-of (l .verdict)))) (shown pending lines)
     unfolding shown
     shown-set = fun-ext (λ i. go i (ℕ-discrete i k))
       where
         go : (i : ℕ) → Dec (i ≡ k)
-            → cond (getD (set pending k x) i true) none (some (says (set lines k l) i)) ≡ put k (cond x none (some (verdict-of (l .verdict)))) (shown pending lines) i
+            → cond (getD (set pending k x) i true) none (some (says (set lines k l) i))
+            ≡ put k (cond x none (some (verdict-of (l .verdict)))) (shown pending lines) i
         go i (yes e) =
             rw (e, getD-set-same pending k x true g, says-same) (sym (put-same k _ (shown pending lines)))
         go i (no n) =
@@ -111,7 +121,8 @@ pub changed-none : (lines : List Line) → 0 ≡ total 0 (λ i. count-of (says l
 unfolding total
 changed-none lines = refl
 
-pub changed-more : (lines : List Line) (sum i n : ℕ) (d : Line) → i < length lines → sum ≡ total i (λ i. count-of (says lines i))
+pub changed-more : (lines : List Line) (sum i n : ℕ) (d : Line) → i < length lines
+    → sum ≡ total i (λ i. count-of (says lines i))
     → n ≡ count-of (verdict-of (getD lines i d .verdict)) → sum + n ≡ total (i + 1) (λ i. count-of (says lines i))
 unfolding total
 changed-more lines sum i n d h e q = rw (add-one i, e, q, says-at lines i (getD lines i d) (has lines i d h))

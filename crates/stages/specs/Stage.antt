@@ -28,7 +28,8 @@ use Rattle.settling.specs.Definition.{settle}
 use Rattle.solver.specs.ContinuationDefinition.{Ended}
 use Rattle.staged_decoding.specs.Definition as staged
 use Rattle.staged_decoding.specs.Definition.{Progress, each, step, stage}
-use Rattle.staged_decoding.specs.Stage.{progress-equal, each-none, each-more, put-same, put-other, found-open, found-settled, step-none, step-some}
+use Rattle.staged_decoding.specs.Stage.{progress-equal, each-none, each-more, put-same, put-other, found-open}
+use Rattle.staged_decoding.specs.Stage.{found-settled, step-none, step-some}
 use Rattle.stages.specs.AttemptDefinition.{Ready}
 use Rattle.stages.specs.declared.report.Line.{Line}
 use Rattle.stages.specs.declared.subword.StagedSubword.{StagedSubword}
@@ -43,20 +44,24 @@ next r k i = cond (ltb i k) (suc r) r
 
 next-other : (r k i : ℕ) → i ≢ k → next r (k + 1) i ≡ next r k i
 next-other r k i n =
-    by-cases (decLt i k) (λ l. rw (lt-ltb i k l, lt-ltb i (k + 1) (omega arith))) (λ l. rw (le-ltb i k (omega arith), le-ltb i (k + 1) (omega arith)))
+    by-cases (decLt i k) (λ l. rw (lt-ltb i k l, lt-ltb i (k + 1) (omega arith)))
+    (λ l. rw (le-ltb i k (omega arith), le-ltb i (k + 1) (omega arith)))
 
-pub record Mid (p : Profile) (f : Form) (r : ℕ) (g : Progress) (k : ℕ) (b : List ℕ) (pending : List Bool) (lines : List Line) (t : List (List Gf)) : Type 0 where
+pub record Mid (p : Profile) (f : Form) (r : ℕ) (g : Progress) (k : ℕ) (b : List ℕ) (pending : List Bool)
+    (lines : List Line) (t : List (List Gf)) : Type 0 where
   pub is : view b pending lines t ≡ each k (step p r) g
   pub kept : Kept p f (next r k) (view b pending lines t) lines
   pub rows : (i : ℕ) → i < p .subwords → below (2 * capability p r) (table t i)
 
 -- ---- what is shown of a subword
 
-shown-yes : (pending : List Bool) (lines : List Line) (k : ℕ) (d : Bool) → k < length pending → getD pending k d ≡ true → shown pending lines k ≡ none
+shown-yes : (pending : List Bool) (lines : List Line) (k : ℕ) (d : Bool) → k < length pending → getD pending k d ≡ true
+    → shown pending lines k ≡ none
 unfolding shown
 shown-yes pending lines k d h e = rw (any-default pending k true d h, e)
 
-pub shown-no : (pending : List Bool) (lines : List Line) (k : ℕ) (d : Bool) → k < length pending → getD pending k d ≡ false
+pub shown-no : (pending : List Bool) (lines : List Line) (k : ℕ) (d : Bool) → k < length pending
+    → getD pending k d ≡ false
     → shown pending lines k ≡ some (says lines k)
 unfolding shown
 shown-no pending lines k d h e = rw (any-default pending k true d h, e)
@@ -78,30 +83,41 @@ module _ (p : Profile) (f : Form) (r : ℕ) (t : List (List Gf)) where
 
   -- ---- one subword more
 
-  module _ (k : ℕ) (b c : List ℕ) (pending : List Bool) (lines : List Line) (low : k < p .subwords) (flags : k < length pending) (long : k < length lines) where
+  module _ (k : ℕ) (b c : List ℕ) (pending : List Bool) (lines : List Line) (low : k < p .subwords)
+      (flags : k < length pending) (long : k < length lines) where
     kept-next : (x : Bool) (l : Line) → Kept p f (next r k) (view b pending lines t) lines
         → Ended f (so-far p k (suc r) (table t k) (cond x none (some (verdict-of (l .verdict))))) (l .solver)
         → Kept p f (next r (k + 1)) (view c (set pending k x) (set lines k l) t) (set lines k l)
     unfolding view
     kept-next x l h e = record {
       solvers = λ i y m. go i y m (ℕ-discrete i k);
-      rest = λ i m. (other i (omega arith) ∙ h .rest i m .0, says-other lines k l long i (omega arith) ∙ h .rest i m .1);
+      rest =
+          λ i m. (other i (omega arith) ∙ h .rest i m .0, says-other lines k l long i (omega arith) ∙ h .rest i m .1);
     }
       where
         other : (i : ℕ) → i ≢ k → shown (set pending k x) (set lines k l) i ≡ shown pending lines i
-        other i n = ap (λ (s : ℕ → Option staged.Line). s i) (shown-set lines k l long pending x flags) ∙ put-other k _ (shown pending lines) i n
+        other i n = ap (λ (s : ℕ → Option staged.Line). s i) (shown-set lines k l long pending x flags)
+            ∙ put-other k _ (shown pending lines) i n
 
         same : (y : Line) → Has (set lines k l) k y
-            → Ended f (so-far p k (next r (k + 1) k) (table t k) (shown (set pending k x) (set lines k l) k)) (y .solver)
+            → Ended f (so-far p k (next r (k + 1) k) (table t k) (shown (set pending k x) (set lines k l) k))
+            (y .solver)
         same y m =
-            subst (λ (z : Line). Ended f (so-far p k (next r (k + 1) k) (table t k) (shown (set pending k x) (set lines k l) k)) (z .solver))
+            subst (λ (z : Line).
+            Ended f (so-far p k (next r (k + 1) k) (table t k) (shown (set pending k x) (set lines k l) k)) (z .solver))
             (sym (has-same lines k l y long m))
-            (rw (lt-ltb k (k + 1) (omega arith), shown-set lines k l long pending x flags, put-same k _ (shown pending lines)) e)
+            (rw (
+              lt-ltb k (k + 1) (omega arith),
+              shown-set lines k l long pending x flags,
+              put-same k _ (shown pending lines),
+            ) e)
 
         go : (i : ℕ) (y : Line) → Has (set lines k l) i y → Dec (i ≡ k)
-            → Ended f (so-far p i (next r (k + 1) i) (table t i) (shown (set pending k x) (set lines k l) i)) (y .solver)
+            → Ended f (so-far p i (next r (k + 1) i) (table t i) (shown (set pending k x) (set lines k l) i))
+            (y .solver)
         go i y m (yes q) =
-            subst (λ i. Ended f (so-far p i (next r (k + 1) i) (table t i) (shown (set pending k x) (set lines k l) i)) (y .solver)) (sym q)
+            subst (λ i. Ended f
+            (so-far p i (next r (k + 1) i) (table t i) (shown (set pending k x) (set lines k l) i)) (y .solver)) (sym q)
             (same y (subst (λ i. Has (set lines k l) i y) q m))
         go i y m (no n) = rw (next-other r k i n, other i n) (h .solvers i y (has-other lines k i l y n m))
 
@@ -113,7 +129,8 @@ module _ (p : Profile) (f : Form) (r : ℕ) (t : List (List Gf)) where
       Next = Mid p f r g (k + 1) c (set pending k (q .pending)) (set lines k (q .line)) t
 
       go-on : view c (set pending k (q .pending)) (set lines k (q .line)) t ≡ step p r k G
-          → Ended f (so-far p k (suc r) (table t k) (cond (q .pending) none (some (verdict-of (q .line .verdict))))) (q .line .solver) → Next
+          → Ended f (so-far p k (suc r) (table t k) (cond (q .pending) none (some (verdict-of (q .line .verdict)))))
+          (q .line .solver) → Next
       go-on is ended = record {
         is = is ∙ ap (step p r k) (mid .is) ∙ sym (each-more k (step p r) g);
         kept = kept-next (q .pending) (q .line) (mid .kept) ended;
@@ -125,7 +142,8 @@ module _ (p : Profile) (f : Form) (r : ℕ) (t : List (List Gf)) where
       unfolding view
       settled-next h (settled, same, kept) =
           go-on
-          (progress-equal (ap bytes kept) (shown-set lines k (q .line) long pending (q .pending) flags ∙ put-stay k _ (shown pending lines) line-is) refl
+          (progress-equal (ap bytes kept) (shown-set lines k (q .line) long pending (q .pending) flags
+          ∙ put-stay k _ (shown pending lines) line-is) refl
           ∙ sym (step-none p r k G (found-settled p r G k (says lines k) line-was)))
           (subst (λ (o : Option staged.Line). Ended f (so-far p k (suc r) (table t k) o) (q .line .solver)) line-is
           (rw (line-was, same) (rw line-was at (mid .kept .solvers k (getD lines k e) (has lines k e long)))))
@@ -137,12 +155,14 @@ module _ (p : Profile) (f : Form) (r : ℕ) (t : List (List Gf)) where
           line-is = line-was ∙ rw (settled, same) (ap some (says-at lines k (getD lines k e) (has lines k e long)))
 
       -- it was not, and w is what settles it now
-      pending-next : getD pending k d ≡ true → (w : Option (List F)) → settle (capability p r) (p .length) (table t k) ≡ w
+      pending-next : getD pending k d ≡ true → (w : Option (List F))
+          → settle (capability p r) (p .length) (table t k) ≡ w
           → Took p f r k (table t k) w (bytes b) (bytes c) q → Next
       unfolding view
       pending-next h none is (waits, same, ended) =
           go-on
-          (progress-equal same (shown-set lines k (q .line) long pending (q .pending) flags ∙ put-stay k _ (shown pending lines) (line-was ∙ rw waits)) refl
+          (progress-equal same (shown-set lines k (q .line) long pending (q .pending) flags
+          ∙ put-stay k _ (shown pending lines) (line-was ∙ rw waits)) refl
           ∙ sym (step-none p r k G (found-open p r G k line-was ∙ is)))
           (rw (waits, lt-ltb k (p .subwords) low) ended)
         where
@@ -150,13 +170,15 @@ module _ (p : Profile) (f : Form) (r : ℕ) (t : List (List Gf)) where
           line-was = shown-yes pending lines k d flags h
       pending-next h (some w) is (settled, changed, says, ended) =
           go-on
-          (progress-equal changed (shown-set lines k (q .line) long pending (q .pending) flags ∙ rw (settled, says)) refl
+          (progress-equal changed
+          (shown-set lines k (q .line) long pending (q .pending) flags ∙ rw (settled, says)) refl
           ∙ sym (step-some p r k G w (found-open p r G k (shown-yes pending lines k d flags h) ∙ is)))
           (rw (settled, says) ended)
 
       pub mid-next : (z : List Gf) → k < length t → (getD pending k d ≡ false → Stayed (getD lines k e) b c q)
           → (getD pending k d ≡ true → (f : Form) → Ready p f r (row (getD t k z)) (getD lines k e .solver)
-          → Took p f r k (row (getD t k z)) (settle (capability p r) (p .length) (row (getD t k z))) (bytes b) (bytes c) q) → Next
+          → Took p f r k (row (getD t k z)) (settle (capability p r) (p .length) (row (getD t k z)))
+          (bytes b) (bytes c) q) → Next
       unfolding view
       mid-next z there stays goes = go (getD pending k d) refl
         where
@@ -173,11 +195,13 @@ module _ (p : Profile) (f : Form) (r : ℕ) (t : List (List Gf)) where
 
   -- ---- the end
 
-  pub mid-end : (g : Progress) (k : ℕ) (b : List ℕ) (q : Staged) → k ≡ p .subwords → Mid p f r g k b (q .pending) (q .lines) t → Came p f r g b q t
+  pub mid-end : (g : Progress) (k : ℕ) (b : List ℕ) (q : Staged)
+      → k ≡ p .subwords → Mid p f r g k b (q .pending) (q .lines) t → Came p f r g b q t
   unfolding stage
   mid-end g k b q e mid = record {
     is = is;
-    kept = subst (λ h. Kept p f (λ _. suc r) h (q .lines)) is (record { solvers = λ i l m. go i l m (decLt i k); rest = mid .kept .rest });
+    kept = subst (λ h. Kept p f (λ _. suc r) h (q .lines)) is
+        (record { solvers = λ i l m. go i l m (decLt i k); rest = mid .kept .rest });
   }
     where
       is : view b (q .pending) (q .lines) t ≡ stage p r g
@@ -187,7 +211,9 @@ module _ (p : Profile) (f : Form) (r : ℕ) (t : List (List Gf)) where
       G = view b (q .pending) (q .lines) t
 
       go : (i : ℕ) (l : Line) → Has (q .lines) i l → Dec (i < k)
-          → Ended f (so-far p i (suc r) (view b (q .pending) (q .lines) t .row i) (view b (q .pending) (q .lines) t .line i)) (l .solver)
+          → Ended f (so-far p i (suc r) (view b (q .pending) (q .lines) t .row i)
+          (view b (q .pending) (q .lines) t .line i)) (l .solver)
       go i l m (yes h) = rw (lt-ltb i k h) at (mid .kept .solvers i l m)
       go i l m (no h) =
-          rw (mid .kept .rest i (omega arith) .0, le-ltb i (p .subwords) (omega arith)) (rw (mid .kept .rest i (omega arith) .0, le-ltb i (p .subwords) (omega arith)) at (mid .kept .solvers i l m))
+          rw (mid .kept .rest i (omega arith) .0, le-ltb i (p .subwords) (omega arith))
+          (rw (mid .kept .rest i (omega arith) .0, le-ltb i (p .subwords) (omega arith)) at (mid .kept .solvers i l m))

@@ -2,7 +2,8 @@
 --
 --   Offered p f r S a         what an attempt has brought
 --   Stayed l b c q            a subword that is settled stays as it is
---   Took p f r i S w b c q    what stage r makes of subword i that was pending, w being the pattern that settles it, if any
+--   Took p f r i S w b c q    what stage r makes of subword i that was pending, w being the pattern that settles
+--                             it, if any
 use Prim.Native.Nat.{ℕ}
 use mathlib.Core.Path.{_≡_}
 use mathlib.Core.Logic.{_≢_}
@@ -35,5 +36,6 @@ Stayed line b c q = (q .pending ≡ false) × (q .line ≡ line) × (c ≡ b)
 abbrev pub Took : Profile → Form → (r i : ℕ) → Series → Option (List F) → (b c : Series) → StagedSubword → Type 0
 Took p f r i S none b c q = (q .pending ≡ true) × (c ≡ b) × Ended f (rounds-of p S r) (q .line .solver)
 Took p f r i S (some w) b c q =
-    (q .pending ≡ false) × (c ≡ add (p .length) i (entry w) b) × (verdict-of (q .line .verdict) ≡ line-of r (weight (p .length) (entry w)))
+    (q .pending ≡ false) × (c ≡ add (p .length) i (entry w) b)
+    × (verdict-of (q .line .verdict) ≡ line-of r (weight (p .length) (entry w)))
     × Ended f (line-rounds p S (line-of r (weight (p .length) (entry w)))) (q .line .solver)

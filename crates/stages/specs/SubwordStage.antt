@@ -1,7 +1,8 @@
 -- A stage of one subword.
 --
--- Proved: a pattern added symbol by symbol (added); what verdicts say (clean-is, corrected-is); what becomes of a subword that no pattern settles
--- (took-none), that one settles (took-some), and that is clean (took-clean); with no change at stage 0 the row is zero (no-change).
+-- Proved: a pattern added symbol by symbol (added); what verdicts say (clean-is, corrected-is); what becomes of a
+-- subword that no pattern settles (took-none), that one settles (took-some), and that is clean (took-clean); with no
+-- change at stage 0 the row is zero (no-change).
 use Prim.Native.Nat.{ℕ, _*_, _≤_, _<_}
 use mathlib.Core.Path.{_≡_, refl, sym, ap, _∙_, fun-ext, subst}
 use mathlib.Core.Logic.{_≢_, by-cases}
@@ -61,20 +62,24 @@ pub clean-is : (r k : ℕ) → r ≡ 0 → k ≡ 0 → verdict-of Clean ≡ line
 clean-is r k e f = rw (e, f)
 
 pub corrected-is : (r k : ℕ) → ¬ ((r ≡ 0) × (k ≡ 0)) → verdict-of (Corrected k r) ≡ line-of r k
-corrected-is r k h = by-cases (ℕ-discrete r 0) (λ e. rw e (sym (line-of-first k (λ f. h (e, f))))) (λ d. sym (line-of-corrected r k d))
+corrected-is r k h =
+    by-cases (ℕ-discrete r 0) (λ e. rw e (sym (line-of-first k (λ f. h (e, f))))) (λ d. sym (line-of-corrected r k d))
 
 -- ---- what becomes of a subword
 
 module _ (p : Profile) (f : Form) (r i : ℕ) (S : Series) (b : Series) where
   module _ (a : Attempted) (o : Offered p f r S a) where
     pub took-none : a .settled .found ≡ false → (v : Verdict)
-        → Took p f r i S (answer (p .length) (a .settled)) b b (record { pending = true; line = record { verdict = v; solver = a .solver } })
+        → Took p f r i S (answer (p .length) (a .settled)) b b
+        (record { pending = true; line = record { verdict = v; solver = a .solver } })
     unfolding answer
     took-none missing v = rw missing (refl, refl, o .solver)
 
-    pub took-some : (c : Series) (v : Verdict) → a .settled .found ≡ true → c ≡ add (p .length) i (cut (p .length) (values (a .settled .pattern))) b
+    pub took-some : (c : Series) (v : Verdict) → a .settled .found ≡ true
+        → c ≡ add (p .length) i (cut (p .length) (values (a .settled .pattern))) b
         → verdict-of v ≡ line-of r (a .settled .count)
-        → Took p f r i S (answer (p .length) (a .settled)) b c (record { pending = false; line = record { verdict = v; solver = a .solver } })
+        → Took p f r i S (answer (p .length) (a .settled)) b c
+        (record { pending = false; line = record { verdict = v; solver = a .solver } })
     unfolding answer
     took-some c v hit is says =
         let n = p .length in
@@ -85,11 +90,13 @@ module _ (p : Profile) (f : Form) (r i : ℕ) (S : Series) (b : Series) where
           is ∙ ap (λ e. add n i e b) (sym (word-cut n g)),
           says ∙ ap (line-of r) k,
           subst (λ k. Ended f (line-rounds p S (line-of r k)) (a .solver)) k
-              (subst (λ l. Ended f (line-rounds p S l) (a .solver)) (corrected-is r _ (λ (e, z). o .some hit e z)) (o .solver)),
+              (subst (λ l. Ended f (line-rounds p S l) (a .solver))
+              (corrected-is r _ (λ (e, z). o .some hit e z)) (o .solver)),
         )
 
   pub took-clean : (t : ℕ) (s : Solver) → p .length ≤ 255 → r ≡ 0 → S ≡ O → Ready p f r S s
-      → Took p f r i S (settle t (p .length) S) b b (record { pending = false; line = record { verdict = Clean; solver = s } })
+      → Took p f r i S (settle t (p .length) S) b b
+      (record { pending = false; line = record { verdict = Clean; solver = s } })
   took-clean t s hn e z h =
       let n = p .length in
       rw (z, settle-zero t n hn) (
@@ -104,7 +111,8 @@ module _ (p : Profile) (f : Form) (r i : ℕ) (S : Series) (b : Series) where
 
 -- a pattern without a change explains a row of zeros only
 pub no-change : (t n : ℕ) (S e : Series) → below (2 * t) S → Explains t n S e → weight n e ≡ 0 → S ≡ O
-no-change t n S e past x z = fun-ext (λ j. by-cases (decLt j (2 * t)) (low j) (λ l. past j (omega arith)) ∙ sym (O-at j))
+no-change t n S e past x z =
+    fun-ext (λ j. by-cases (decLt j (2 * t)) (low j) (λ l. past j (omega arith)) ∙ sym (O-at j))
   where
     low : (j : ℕ) → j < 2 * t → S j ≡ 𝟎
     low j l = sym (x .syndromes j l) ∙ syndrome-is n e j ∙ value-zero n e (root j) (zero-weight n e z)
@@ -124,8 +132,10 @@ clean-yes r b h = go (eqb r 0) refl h
     go true e h = (eqb-true r 0 e, h)
     go false e h = absurd (true≢false (sym h))
 
-pub offered : (p : Profile) (f : Form) (r : ℕ) (l : List Gf) (s : Solver) (a : Attempted) → (eqb r 0 && holds (zero? l)) ≡ false
-    → Ready p f r (row l) s → Sound (capability p r) (p .length) (row l) (a .settled) → Ended f (rounds-of p (row l) r) (a .solver)
+pub offered : (p : Profile) (f : Form) (r : ℕ) (l : List Gf) (s : Solver) (a : Attempted)
+    → (eqb r 0 && holds (zero? l)) ≡ false
+    → Ready p f r (row l) s → Sound (capability p r) (p .length) (row l) (a .settled)
+    → Ended f (rounds-of p (row l) r) (a .solver)
     → Offered p f r (row l) a
 offered p f r l s a dirty ready sound ended = record {
   count = sound .count;

@@ -2,8 +2,10 @@
 --
 --   view b pending lines t    the progress that a block, flags, lines and a table of syndromes show
 --   waiting p pending         how many subwords are pending
---   so-far p i s S o          the rounds that a solver went through, o being what its subword's line is and s the next stage if it has none
---   Kept p f next g lines     the solvers of the lines are in the form f at the end of these rounds; the lines that are no subword's say clean
+--   so-far p i s S o          the rounds that a solver went through, o being what its subword's line is and s the next
+--                             stage if it has none
+--   Kept p f next g lines     the solvers of the lines are in the form f at the end of these rounds; the lines that are
+--                             no subword's say clean
 --   Before p f r g lines      so it is before stage r, and the rows are zero past that stage's syndromes
 --   Came p f r g b q t        after stage r of the progress g
 --   Extended p r b q t u      u is the table t after round r + 1
@@ -26,7 +28,8 @@ use Rattle.block.specs.Table.{table}
 use Rattle.solver.specs.declared.Form.{Form}
 use Rattle.solver.specs.ContinuationDefinition.{Ended}
 use Rattle.staged_decoding.specs.Definition as staged
-use Rattle.staged_decoding.specs.Definition.{Progress, count, line-at, line-rounds, stage, round, start, stages, settled, stopped}
+use Rattle.staged_decoding.specs.Definition.{Progress, count, line-at, line-rounds, stage, round}
+use Rattle.staged_decoding.specs.Definition.{start, stages, settled, stopped}
 use Rattle.stages.specs.AttemptDefinition.{earlier}
 use Rattle.extend.specs.LagrangeDefinition.{flag}
 use Rattle.stages.specs.declared.report.Line.{Line}
@@ -62,7 +65,8 @@ pub record Before (p : Profile) (f : Form) (r : ℕ) (g : Progress) (lines : Lis
 -- ---- a stage
 
 -- of all subwords, with the flags and lines q and the table t
-pub record Came (p : Profile) (f : Form) (r : ℕ) (g : Progress) (b : List ℕ) (q : Staged) (t : List (List Gf)) : Type 0 where
+pub record Came (p : Profile) (f : Form) (r : ℕ) (g : Progress) (b : List ℕ) (q : Staged)
+    (t : List (List Gf)) : Type 0 where
   pub is : view b (q .pending) (q .lines) t ≡ stage p r g
   pub kept : Kept p f (λ _. suc r) (stage p r g) (q .lines)
 
@@ -81,5 +85,6 @@ pub record Shows (p : Profile) (f : Form) (g : Progress) (lines : List Line) : T
 
 abbrev pub Reached : Profile → Form → (y b : Series) → Ending → Type 0
 Reached p f y b e =
-    (e .settled ≡ true → (g : Progress) × (stages p (p .nested) 0 (start p y) ≡ settled (e .stage) g) × (g .block ≡ b) × Shows p f g (e .lines))
+    (e .settled ≡ true → (g : Progress) × (stages p (p .nested) 0 (start p y) ≡ settled (e .stage) g) × (g .block ≡ b)
+    × Shows p f g (e .lines))
     × (e .settled ≡ false → stages p (p .nested) 0 (start p y) ≡ stopped (e .stage))

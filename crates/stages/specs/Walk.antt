@@ -2,8 +2,8 @@
 --
 --   At p f y r b q l t   decoding of y has gone through stage r, and a block, flags, lines and a table show where it is
 --
--- Proved: a round brings the rows that the definition says (extended); so it is after stage 0 (at-first), after a round and a stage more (at-next),
--- and where no round follows decoding has ended (reached).
+-- Proved: a round brings the rows that the definition says (extended); so it is after stage 0 (at-first), after a round
+-- and a stage more (at-next), and where no round follows decoding has ended (reached).
 use Prim.Native.Nat.{ℕ, zero, suc, _+_, _-_, _*_, _≤_, _<_}
 use mathlib.Core.Path.{_≡_, refl, sym, ap, _∙_, fun-ext, subst}
 use mathlib.Core.Logic.{_≢_, by-cases}
@@ -31,7 +31,8 @@ use Rattle.code.specs.Check.{received}
 use Rattle.solver.specs.declared.Form.{Form}
 use Rattle.solver.specs.ContinuationDefinition.{Ended}
 use Rattle.staged_decoding.specs.Definition as staged
-use Rattle.staged_decoding.specs.Definition.{Progress, open?, unsettled-line, unsettled, line-at, line-rounds, rounds-of, extend, start, stage, round, stages, settled}
+use Rattle.staged_decoding.specs.Definition.{Progress, open?, unsettled-line, unsettled, line-at, line-rounds}
+use Rattle.staged_decoding.specs.Definition.{rounds-of, extend, start, stage, round, stages, settled}
 use Rattle.staged_decoding.specs.Count.{count-cong, count-none}
 use Rattle.staged_decoding.specs.Stage.{progress-equal}
 use Rattle.staged_decoding.specs.Round.{extend-open, extend-settled, extend-low, window-high}
@@ -48,7 +49,8 @@ use Rattle.stages.specs.Stage.{shown-no}
 
 -- ---- flags
 
-open-is : (p : Profile) (b : List ℕ) (pending : List Bool) (lines : List Line) (t : List (List Gf)) (i : ℕ) → i < length pending
+open-is : (p : Profile) (b : List ℕ) (pending : List Bool) (lines : List Line) (t : List (List Gf)) (i : ℕ)
+    → i < length pending
     → open? (view b pending lines t) i ≡ flag pending i
 unfolding view shown
 open-is p b pending lines t i h = rw (any-default pending i true false h) (go (getD pending i false))
@@ -57,13 +59,15 @@ open-is p b pending lines t i h = rw (any-default pending i true false h) (go (g
     go true = refl
     go false = refl
 
-module _ (p : Profile) (pending : List Bool) (enough : p .subwords ≤ length pending) (b : List ℕ) (lines : List Line) where
+module _ (p : Profile) (pending : List Bool) (enough : p .subwords ≤ length pending) (b : List ℕ)
+    (lines : List Line) where
   pub waiting-is : (t : List (List Gf)) → unsettled p (view b pending lines t) ≡ waiting p pending
   unfolding unsettled
   waiting-is t = count-cong (p .subwords) _ _ (λ i h. open-is p b pending lines t i (omega arith))
 
   pub extended : (r : ℕ) (t u : List (List Gf))
-      → ((g : Progress) → Seen p pending b t g → table u ≡ extend p (2 * capability p r) (2 * capability p (suc r)) g .row)
+      → ((g : Progress) → Seen p pending b t g
+      → table u ≡ extend p (2 * capability p r) (2 * capability p (suc r)) g .row)
       → view b pending lines u ≡ round p r (view b pending lines t)
   unfolding view extend
   extended r t u h = progress-equal refl refl (h (view b pending lines t) seen)
@@ -77,7 +81,8 @@ follows-none w k e = sym (rw (lt-leb 1 w (omega arith)))
 pub follows-some : (w k : ℕ) → w ≢ 0 → leb w k ≡ (leb 1 w && leb w k)
 follows-some w k h = sym (rw (le-leb 1 w (omega (arith, h))))
 
-pub follows-yes : (p : Profile) (pending : List Bool) (r : ℕ) (b : Bool) → b ≡ (leb 1 (waiting p pending) && leb (waiting p pending) (p .nested - r)) → b ≡ true
+pub follows-yes : (p : Profile) (pending : List Bool) (r : ℕ) (b : Bool)
+    → b ≡ (leb 1 (waiting p pending) && leb (waiting p pending) (p .nested - r)) → b ≡ true
     → (1 ≤ waiting p pending) × (waiting p pending ≤ p .nested - r)
 follows-yes p pending r b is h = go (waiting p pending) (p .nested - r) (sym is ∙ h)
   where
@@ -91,12 +96,14 @@ follows-yes p pending r b is h = go (waiting p pending) (p .nested - r) (sym is 
 -- ---- a round
 
 -- what a solver went through, the row having gone on
-so-far-cong : (p : Profile) (i r : ℕ) (S T : Series) (o : Option staged.Line) → (o ≡ none → rounds-of p S r ≡ rounds-of p T r)
+so-far-cong : (p : Profile) (i r : ℕ) (S T : Series) (o : Option staged.Line)
+    → (o ≡ none → rounds-of p S r ≡ rounds-of p T r)
     → ((x : staged.Line) → o ≡ some x → S ≡ T) → so-far p i (suc r) S o ≡ so-far p i (suc r) T o
 so-far-cong p i r S T none rounds row = ap (λ (l : List (List F)). cond (ltb i (p .subwords)) l []) (rounds refl)
 so-far-cong p i r S T (some x) rounds row = ap (λ (s : Series). line-rounds p s x) (row x refl)
 
-module _ (p : Profile) (ok : Valid p) (f : Form) (r : ℕ) (small : r < p .nested) (lines : List Line) (g : Progress) where
+module _ (p : Profile) (ok : Valid p) (f : Form) (r : ℕ) (small : r < p .nested)
+    (lines : List Line) (g : Progress) where
   abbrev a : ℕ
   a = 2 * capability p r
 
@@ -113,10 +120,12 @@ module _ (p : Profile) (ok : Valid p) (f : Form) (r : ℕ) (small : r < p .neste
     rest = λ i m. rw same-line (h .rest i m);
   }
     where
-      go : (i : ℕ) → so-far p i (suc r) (g .row i) (g .line i) ≡ so-far p i (suc r) (round p r g .row i) (round p r g .line i)
+      go : (i : ℕ)
+          → so-far p i (suc r) (g .row i) (g .line i) ≡ so-far p i (suc r) (round p r g .row i) (round p r g .line i)
       go i =
           so-far-cong p i r (g .row i) (round p r g .row i) (g .line i)
-          (λ e. rounds-cong p ok (g .row i) (round p r g .row i) r (omega arith) (λ j k. sym (extend-low p a b g i j k)))
+          (λ e.
+          rounds-cong p ok (g .row i) (round p r g .row i) r (omega arith) (λ j k. sym (extend-low p a b g i j k)))
           (λ x e. sym (extend-settled p a b g i x e))
           ∙ ap (λ (line : ℕ → Option staged.Line). so-far p i (suc r) (round p r g .row i) (line i)) (sym same-line)
 
@@ -135,7 +144,8 @@ module _ (p : Profile) (ok : Valid p) (f : Form) (r : ℕ) (small : r < p .neste
 
 -- ---- where decoding is
 
-pub record At (p : Profile) (f : Form) (y : Series) (r : ℕ) (b : List ℕ) (pending : List Bool) (lines : List Line) (t : List (List Gf)) : Type 0 where
+pub record At (p : Profile) (f : Form) (y : Series) (r : ℕ) (b : List ℕ) (pending : List Bool) (lines : List Line)
+    (t : List (List Gf)) : Type 0 where
   pub from : Progress
   pub is : view b pending lines t ≡ stage p r from
   pub on : stages p (p .nested) 0 (start p y) ≡ stages p (p .nested - r) r from
@@ -144,7 +154,8 @@ pub record At (p : Profile) (f : Form) (y : Series) (r : ℕ) (b : List ℕ) (pe
 
 came-at : (p : Profile) (f : Form) (y : Series) (r : ℕ) (g : Progress) (c : List ℕ) (q : Staged) (t : List (List Gf))
     → stages p (p .nested) 0 (start p y) ≡ stages p (p .nested - r) r g
-    → ((i : ℕ) → i < p .subwords → below (2 * capability p r) (table t i)) → Came p f r g c q t → At p f y r c (q .pending) (q .lines) t
+    → ((i : ℕ) → i < p .subwords → below (2 * capability p r) (table t i)) → Came p f r g c q t
+    → At p f y r c (q .pending) (q .lines) t
 came-at p f y r g c q t on rows came = record {
   from = g;
   is = came .is;
@@ -171,13 +182,17 @@ module _ (p : Profile) (f : Form) (b : List ℕ) (lines : List Line) (t : List (
   start-is = progress-equal refl (fun-ext none-settled) is
 
   first-rows : (i : ℕ) → i < p .subwords → below (2 * capability p 0) (table t i)
-  first-rows i h j l = ap (λ (g : ℕ → Series). g i j) is ∙ rw (lt-ltb i (p .subwords) h) (cut-high (2 * capability p 0) _ j l)
+  first-rows i h j l = ap (λ (g : ℕ → Series). g i j) is
+      ∙ rw (lt-ltb i (p .subwords) h) (cut-high (2 * capability p 0) _ j l)
 
   pub before-first : Before p f 0 (view b (replicate 8 true) lines t) lines
   unfolding view
   before-first = record {
     rows = first-rows;
-    kept = record { solvers = λ i l m. rw (none-settled i) (go i l m (ltb i (p .subwords))); rest = λ i h. (none-settled i, first .says i) };
+    kept = record {
+      solvers = λ i l m. rw (none-settled i) (go i l m (ltb i (p .subwords)));
+      rest = λ i h. (none-settled i, first .says i);
+    };
   }
     where
       go : (i : ℕ) (l : Line) → Has lines i l → (x : Bool) → Ended f (cond x [] []) (l .solver)
@@ -190,9 +205,11 @@ module _ (p : Profile) (f : Form) (b : List ℕ) (lines : List Line) (t : List (
 
 -- ---- a round and a stage more
 
-module _ (p : Profile) (ok : Valid p) (f : Form) (y : Series) (r : ℕ) (b : List ℕ) (pending : List Bool) (lines : List Line) (t : List (List Gf))
+module _ (p : Profile) (ok : Valid p) (f : Form) (y : Series) (r : ℕ) (b : List ℕ) (pending : List Bool)
+    (lines : List Line) (t : List (List Gf))
     (enough : p .subwords ≤ length pending) (now : At p f y r b pending lines t) where
-  module _ (u : List (List Gf)) (further : view b pending lines u ≡ round p r (view b pending lines t)) (some-left : 1 ≤ waiting p pending)
+  module _ (u : List (List Gf)) (further : view b pending lines u ≡ round p r (view b pending lines t))
+      (some-left : 1 ≤ waiting p pending)
       (few-left : waiting p pending ≤ p .nested - r) where
     next-rows : (i : ℕ) → i < p .subwords → below (2 * capability p (suc r)) (table u i)
     unfolding view
@@ -208,9 +225,11 @@ module _ (p : Profile) (ok : Valid p) (f : Form) (y : Series) (r : ℕ) (b : Lis
           (round-kept p ok f r (omega arith) lines (view b pending lines t) (now .kept));
     }
 
-    pub at-next : (c : List ℕ) (q : Staged) → (Before p f (r + 1) (view b pending lines u) lines → Came p f (r + 1) (view b pending lines u) c q u)
+    pub at-next : (c : List ℕ) (q : Staged)
+        → (Before p f (r + 1) (view b pending lines u) lines → Came p f (r + 1) (view b pending lines u) c q u)
         → At p f y (r + 1) c (q .pending) (q .lines) u
-    at-next c q came = rw (add-one r) (came-at p f y (suc r) (view b pending lines u) c q u on next-rows (rw (add-one r) at came before-next))
+    at-next c q came = rw (add-one r)
+        (came-at p f y (suc r) (view b pending lines u) c q u on next-rows (rw (add-one r) at came before-next))
       where
         left : p .nested - r - 1 ≡ p .nested - suc r
         left = omega arith
@@ -221,12 +240,14 @@ module _ (p : Profile) (ok : Valid p) (f : Form) (y : Series) (r : ℕ) (b : Lis
         on : stages p (p .nested) 0 (start p y) ≡ stages p (p .nested - suc r) (suc r) (view b pending lines u)
         on =
             now .on
-            ∙ stages-on p r (now .from) (view b pending lines t) (now .is) (p .nested - r) (omega (arith, count-is)) (omega (arith, count-is))
+            ∙ stages-on p r (now .from) (view b pending lines t) (now .is) (p .nested - r) (omega (arith, count-is))
+            (omega (arith, count-is))
             ∙ rw (left, add-one r, further)
 
   -- ---- the end
 
-  module _ (long : length lines ≡ 8) (follows : (leb 1 (waiting p pending) && leb (waiting p pending) (p .nested - r)) ≡ false) where
+  module _ (long : length lines ≡ 8)
+      (follows : (leb 1 (waiting p pending) && leb (waiting p pending) (p .nested - r)) ≡ false) where
     abbrev g : Progress
     g = view b pending lines t
 
@@ -235,7 +256,11 @@ module _ (p : Profile) (ok : Valid p) (f : Form) (y : Series) (r : ℕ) (b : Lis
 
     all-settled : waiting p pending ≡ 0 → Shows p f g lines
     unfolding view
-    all-settled z = record { long = long; says = λ i. says-is i (decLt i (p .subwords)); solvers = λ i l m. solver-is i l m (decLt i (p .subwords)) }
+    all-settled z = record {
+      long = long;
+      says = λ i. says-is i (decLt i (p .subwords));
+      solvers = λ i l m. solver-is i l m (decLt i (p .subwords));
+    }
       where
         line-now : (i : ℕ) → i < p .subwords → shown pending lines i ≡ some (says lines i)
         line-now i h = shown-no pending lines i false (omega arith) (count-none (p .subwords) (flag pending) z i h)
@@ -244,16 +269,21 @@ module _ (p : Profile) (ok : Valid p) (f : Form) (y : Series) (r : ℕ) (b : Lis
         says-is i (yes h) = rw (line-now i h)
         says-is i (no h) = rw (now .kept .rest i (omega arith) .0) (now .kept .rest i (omega arith) .1)
 
-        solver-is : (i : ℕ) (l : Line) → Has lines i l → Dec (i < p .subwords) → Ended f (line-rounds p (table t i) (line-at g i)) (l .solver)
+        solver-is : (i : ℕ) (l : Line) → Has lines i l → Dec (i < p .subwords)
+            → Ended f (line-rounds p (table t i) (line-at g i)) (l .solver)
         solver-is i l m (yes h) = rw (line-now i h) (rw (line-now i h) at (now .kept .solvers i l m))
         solver-is i l m (no h) =
             rw (now .kept .rest i (omega arith) .0)
-            (rw (now .kept .rest i (omega arith) .0, le-ltb i (p .subwords) (omega arith)) at (now .kept .solvers i l m))
+            (rw (now .kept .rest i (omega arith) .0, le-ltb i (p .subwords) (omega arith)) at
+            (now .kept .solvers i l m))
 
     too-many : waiting p pending ≢ 0 → p .nested - r < waiting p pending
     too-many h =
         by-cases (decLt (p .nested - r) (waiting p pending)) (λ l. l)
-        (λ l. absurd (true≢false (rw (le-leb 1 (waiting p pending) (omega (arith, h)), le-leb (waiting p pending) (p .nested - r) (omega arith)) at follows)))
+        (λ l. absurd (true≢false (rw (
+          le-leb 1 (waiting p pending) (omega (arith, h)),
+          le-leb (waiting p pending) (p .nested - r) (omega arith),
+        ) at follows)))
 
     pub reached : Reached p f y (bytes b) (record { settled = eqb (waiting p pending) 0; stage = r; lines = lines })
     unfolding view
@@ -261,5 +291,6 @@ module _ (p : Profile) (ok : Valid p) (f : Form) (y : Series) (r : ℕ) (b : Lis
       λ e.
           let z = eqb-true (waiting p pending) 0 e in
           (g, now .on ∙ stages-over p r (now .from) g (now .is) (p .nested - r) (count-now ∙ z), refl, all-settled z),
-      λ e. now .on ∙ stages-stop p r (now .from) g (now .is) (p .nested - r) (omega (arith, count-now, too-many (λ z. true≢false (sym (eq-eqb _ 0 z) ∙ e)))),
+      λ e. now .on ∙ stages-stop p r (now .from) g (now .is) (p .nested - r)
+          (omega (arith, count-now, too-many (λ z. true≢false (sym (eq-eqb _ 0 z) ∙ e)))),
     )

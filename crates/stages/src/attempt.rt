@@ -63,7 +63,8 @@ fn tried(s: Solver, row: [Gf; SYNDROMES], n: usize, t: usize) -> Settled
 pub fn attempt(p: Profile, r: u8, s: Solver, row: [Gf; SYNDROMES]) -> Attempted
     requires { ⌜ Valid p × (r ≤ p .nested) ⌝ }
     ensures sound { λ a. ⌜ Sound (capability p r) (p .length) (Row row) (a .settled) ⌝ }
-    ensures settled { λ a. ⌜ ((f : Form) → Ready p f r (Row row) s → answer (p .length) (a .settled) ≡ settle (capability p r) (p .length) (Row row)) ⌝ }
+    ensures settled { λ a. ⌜ ((f : Form) → Ready p f r (Row row) s
+        → answer (p .length) (a .settled) ≡ settle (capability p r) (p .length) (Row row)) ⌝ }
     ensures solver { λ a. ⌜ ((f : Form) → Ready p f r (Row row) s → Ended f (rounds-of p (Row row) r) (a .solver)) ⌝ }
 {
     let n = p.length as usize;

@@ -1,5 +1,5 @@
-// Staged decoding of a block that is lent: subwords are corrected in place, stage after stage. What the promises speak of stands in
-// staged_decoding's specs/Definition.antt; how the values here show it, in specs/View.antt.
+// Staged decoding of a block that is lent: subwords are corrected in place, stage after stage. What the promises speak
+// of stands in staged_decoding's specs/Definition.antt; how the values here show it, in specs/View.antt.
 mod attempt;
 pub mod report;
 mod subword;
@@ -96,8 +96,8 @@ fn follows(p: Profile, r: u8, pending: [bool; SUBWORDS]) -> bool
     b <= (p.nested - r) as usize
 }
 
-// The stages, up to the one after which every subword is settled or too many are not, from the received subwords' syndromes. A round goes by the table for the
-// further roots of nested words.
+// The stages, up to the one after which every subword is settled or too many are not, from the received subwords'
+// syndromes. A round goes by the table for the further roots of nested words.
 pub fn run(
     p: Profile,
     form: Form,
@@ -105,7 +105,8 @@ pub fn run(
     syndromes: [[Gf; SYNDROMES]; SUBWORDS],
     block: &mut [u8],
 ) -> Ending
-    requires { ⌜ Fits p (now block) × Further p (now u) × (table syndromes ≡ received p (bytes (now block)) (2 * p .t0)) ⌝ }
+    requires { ⌜ Fits p (now block) × Further p (now u)
+        × (table syndromes ≡ received p (bytes (now block)) (2 * p .t0)) ⌝ }
     ensures { λ e. ⌜ Reached p form (bytes (now (block .entry))) (bytes (now (block .exit))) e ⌝ }
 {
     let mut table = syndromes;

@@ -21,7 +21,8 @@ pub struct Line {
     pub solver: Solver,
 }
 
-// The lines of the subwords, lines that are no subword's being clean; how many symbols were changed; the last stage entered.
+// The lines of the subwords, lines that are no subword's being clean; how many symbols were changed; the last
+// stage entered.
 pub struct Report {
     pub lines: [Line; SUBWORDS],
     pub changed: u16,

@@ -1,4 +1,5 @@
-// One stage of one subword, in a block that is lent: it is settled already, clean or attempted. What the promises speak of stands in specs/SubwordDefinition.antt.
+// One stage of one subword, in a block that is lent: it is settled already, clean or attempted. What the promises speak
+// of stands in specs/SubwordDefinition.antt.
 ghost use Prim.Native.Nat.{_≤_, _<_};
 ghost use mathlib.Core.Path.{_≡_};
 ghost use mathlib.Core.Bool.{true, false, _&&_};
@@ -47,7 +48,8 @@ fn verdict_of(r: u8, count: u8) -> Verdict
 // The pattern is added to subword i.
 fn correct(p: Profile, i: usize, pattern: [Gf; 255], block: &mut [u8])
     requires { ⌜ Fits p (now block) × (i < p .subwords) ⌝ }
-    ensures { λ _. ⌜ bytes (now (block .exit)) ≡ add (p .length) i (cut (p .length) (values pattern)) (bytes (now (block .entry))) ⌝ }
+    ensures { λ _. ⌜ bytes (now (block .exit)) ≡
+        add (p .length) i (cut (p .length) (values pattern)) (bytes (now (block .entry))) ⌝ }
 {
     let n = p.length as usize;
     let a = i * n;
@@ -62,8 +64,8 @@ fn correct(p: Profile, i: usize, pattern: [Gf; 255], block: &mut [u8])
 // What an attempt has brought is taken: the block is corrected if the subword is settled.
 fn take(p: Profile, r: u8, i: usize, a: Attempted, block: &mut [u8]) -> StagedSubword
     requires { ⌜ Fits p (now block) × (i < p .subwords) ⌝ }
-    ensures { λ q. ⌜ ((f : Form) (S : Series) → Offered p f r S a
-        → Took p f r i S (answer (p .length) (a .settled)) (bytes (now (block .entry))) (bytes (now (block .exit))) q) ⌝ }
+    ensures { λ q. ⌜ ((f : Form) (S : Series) → Offered p f r S a → Took p f r i S (answer (p .length) (a .settled))
+        (bytes (now (block .entry))) (bytes (now (block .exit))) q) ⌝ }
 {
     let s = a.solver;
     let w = a.settled;
@@ -111,7 +113,8 @@ pub fn stage(
     requires { ⌜ Fits p (now block) × (i < p .subwords) × (r ≤ p .nested) ⌝ }
     ensures settled { λ q. ⌜ (pending ≡ false → Stayed line (now (block .entry)) (now (block .exit)) q) ⌝ }
     ensures pending { λ q. ⌜ (pending ≡ true → (f : Form) → Ready p f r (Row row) (line .solver)
-        → Took p f r i (Row row) (Settle (capability p r) (p .length) (Row row)) (bytes (now (block .entry))) (bytes (now (block .exit))) q) ⌝ }
+        → Took p f r i (Row row) (Settle (capability p r) (p .length) (Row row)) (bytes (now (block .entry)))
+        (bytes (now (block .exit))) q) ⌝ }
 {
     if !pending {
         return StagedSubword {

@@ -2,7 +2,8 @@
 // model: stored cards, and the sample card (FORMAT 10.11) cut at every byte and followed by one byte too many.
 // tools/make_vectors makes both files.
 //
-// Standard input is the number of cards and the cards, each after its size. These numbers have two bytes, the high byte first.
+// Standard input is the number of cards and the cards, each after its size. These numbers have two bytes, the high
+// byte first.
 ghost use Prim.Native.Nat.{_≤_, _<_};
 ghost use mathlib.Core.Path.{_≡_};
 ghost use mathlib.Core.Bool.{false};

@@ -1,18 +1,20 @@
 // Reads blocks in each form, as the cases of standard input say. It prints a line for each case and one for each form:
 //
 //     case PROFILE | block size, output size
-//     FORM 0 | last stage, symbols changed | the subwords' lines | position and byte, wherever the output differs from the block
+//     FORM 0 | last stage, symbols changed | the subwords' lines | position and byte, wherever the output differs
+//         from the block
 //     FORM NUMBER | kept
 //
-// A subword's line is C (clean), or M with its count and stage. An 8 is followed by its stage. `kept` says that the output, which held 170 everywhere
-// before, holds it still; `lost` would say that it does not. In a case with states a line follows for each corrected subword, with its number and
-// the last state of its solver.
+// A subword's line is C (clean), or M with its count and stage. An 8 is followed by its stage. `kept` says that the
+// output, which held 170 everywhere before, holds it still; `lost` would say that it does not. In a case with states a
+// line follows for each corrected subword, with its number and the last state of its solver.
 //
-// `stdout` holds the same lines from an independent model, and from an independent Reed-Solomon program (libfec) for the strips at the end.
-// tools/make_vectors makes both files.
+// `stdout` holds the same lines from an independent model, and from an independent Reed-Solomon program (libfec) for
+// the strips at the end. tools/make_vectors makes both files.
 //
-// Standard input is the number of cases and the cases. A case is a byte, 1 for one with states; a byte with the size of the profile, and the profile;
-// the size of the block, and the block; the size of the output. These numbers have two bytes, the high byte first.
+// Standard input is the number of cases and the cases. A case is a byte, 1 for one with states; a byte with the size of
+// the profile, and the profile; the size of the block, and the block; the size of the output. These numbers have two
+// bytes, the high byte first.
 mod report;
 
 ghost use Prim.Native.Nat.{_≤_};

@@ -20,8 +20,10 @@ known-requires c κs = search needs
 
 judge-kept-requires : tie.Need-judge-kept-requires
 judge-kept-requires c κs =
-    let known-is = c .before .before .before in
-    (ap good (known-is .known .ensures) ∙ known-good (known-is .before .before .before .before .args .s), λ e. absurd (true≢false (sym e)))
+    let known-is = c .before .before .before in (
+      ap good (known-is .known .ensures) ∙ known-good (known-is .before .before .before .before .args .s),
+      λ e. absurd (true≢false (sym e)),
+    )
 
 returns : tie.Need-returns
 returns c =

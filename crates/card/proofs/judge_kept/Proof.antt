@@ -28,7 +28,10 @@ returns c =
     let short = step-cut s y (omega (arith, c .before .before .if1 .taken, sized .size .ensures .0)) in
     let takes = takes-as short (c .cut .ensures) in (
       judges-good s y _ _ _ good takes (λ j. omega (arith, known .shared-slice-known .given j)),
-      (kept-as _ _ (c .cut .ensures .next) (cut-kept (given .args .t .now) (given .args .u .now) s), step-good s y _ _ _ good takes),
+      (
+        kept-as _ _ (c .cut .ensures .next) (cut-kept (given .args .t .now) (given .args .u .now) s),
+        step-good s y _ _ _ good takes,
+      ),
     )
 
 slice-aggregate-whole : tie.Need-slice-aggregate-whole

@@ -17,8 +17,10 @@ enum-known-p c = search needs
 read-requires : tie.Need-read-requires
 read-requires c κs =
     let told = c .before .before in
-    let given = c .before .before .before .before .before .before .before .before in
-    let yes = sym (c .before .before .before .before .admit .ensures) ∙ told .p .given .1 in
+    let given =
+    let back-6 = told .before .before .before .before in
+    back-6 .before .before in
+    let yes = sym (told .before .before .admit .ensures) ∙ told .p .given .1 in
     let (ok, input, output) = reading-passed (given .args .profile .now) _ _ _ yes (omega arith) in
     (record { valid = ok; size = input }, output ∙ sym input)
 
@@ -33,10 +35,13 @@ same-length c = search needs
 
 returns : tie.Need-returns
 returns c =
-    let told = c .before .before .before .before .before in
-    let given = c .before .before .before .before .before .before .before .before .before .before .before in
-    let is = ap (λ a. judged a (given .args .input .now)) (sym (told .before .before .admit .ensures) ∙ told .p .given .1) in
-    let read = c .before .before .read in
+    let at-read = c .before .before in
+    let told = at-read .before .before .before in
+    let at-admit = told .before .before in
+    let given = at-admit .before .before .before .before in
+    let is =
+    ap (λ a. judged a (given .args .input .now)) (sym (at-admit .admit .ensures) ∙ told .p .given .1) in
+    let read = at-read .read in
     let gives = gives-as (given .args .form) _ _ _ _ (read .result) is (read .ensures) in
     (gives .answer, (gives .block, gives .report))
 
@@ -45,12 +50,16 @@ same-length-2 c = search needs
 
 returns-2 : tie.Need-returns-2
 returns-2 c =
-    let told = c .before .before .before .before .before in
-    let given = c .before .before .before .before .before .before .before .before .before .before .before in
-    let is = ap (λ a. judged a (given .args .input .now)) (sym (told .before .before .admit .ensures) ∙ told .q .given .1) in
-    let refuse = c .before .before .refuse in
+    let at-refuse = c .before .before in
+    let told = at-refuse .before .before .before in
+    let at-admit = told .before .before in
+    let given = at-admit .before .before .before .before in
+    let is =
+    ap (λ a. judged a (given .args .input .now)) (sym (at-admit .admit .ensures) ∙ told .q .given .1) in
+    let refuse = at-refuse .refuse in
     let form = given .args .form in
-    let refused = gives-refused form _ _ _ (refuse .result) (refuse .ensures .0) (refuse .ensures .1 .0) (refuse .ensures .1 .1) in
+    let refused =
+    gives-refused form _ _ _ (refuse .result) (refuse .ensures .0) (refuse .ensures .1 .0) (refuse .ensures .1 .1) in
     let gives = gives-as form _ _ _ _ (refuse .result) is refused in
     (gives .answer, (gives .block, gives .report))
 

@@ -18,7 +18,9 @@ enum-known-p c = search needs
 write-requires : tie.Need-write-requires
 write-requires c κs =
     let told = c .before .before in
-    let given = told .before .before .before .before .before .before in
+    let given =
+    let back-6 = told .before .before .before .before in
+    back-6 .before .before in
     let yes = sym (told .before .before .admit .ensures) ∙ told .p .given .1 in
     let (ok, input, output) = writing-passed (given .args .profile .now) _ _ _ yes (omega arith) in
     (record { valid = ok; size = output }, input)
@@ -34,12 +36,17 @@ same-length c = search needs
 
 returns : tie.Need-returns
 returns c =
-    let told = c .before .before .before .before .before in
-    let given = told .before .before .before .before .before .before in
+    let told =
+    let back-4 = c .before .before .before .before in
+    back-4 .before in
+    let given =
+    let back-9 = told .before .before .before .before in
+    back-9 .before .before in
     let yes = sym (told .before .before .admit .ensures) ∙ told .p .given .1 in
     let (ok, input, output) = writing-passed (given .args .profile .now) _ _ _ yes (omega arith) in (
       sym (ap answer-of yes),
-      written-is _ ok _ _ _ _ yes (omega (arith, c .before .out .given, output)) (λ i. omega (arith, c .slice-known2 .given i))
+      written-is _ ok _ _ _ _ yes (omega (arith, c .before .out .given, output))
+          (λ i. omega (arith, c .slice-known2 .given i))
           (c .before .before .write .ensures),
     )
 
@@ -48,10 +55,12 @@ same-length-2 c = search needs
 
 returns-2 : tie.Need-returns-2
 returns-2 c =
-    let refuse = c .before .before .refuse in
-    let told = c .before .before .before .before .before in
-    let given = told .before .before .before .before .before .before in
-    let no = sym (told .before .before .admit .ensures) ∙ told .q .given .1 in (
+    let at-refuse = c .before .before in
+    let told = at-refuse .before .before .before in
+    let at-admit = told .before .before in
+    let given = at-admit .before .before .before .before in
+    let refuse = at-refuse .refuse in
+    let no = sym (at-admit .admit .ensures) ∙ told .q .given .1 in (
       refuse .ensures .0 ∙ sym (ap answer-of no),
       refuse .ensures .1 ∙ sym (ap (λ a. written a (given .args .«data» .now) (given .args .out .now)) no),
     )

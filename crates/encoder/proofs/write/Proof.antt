@@ -39,7 +39,8 @@ slice-aggregate-table c = search needs
 
 table-requires : tie.Need-table-requires Inv-loop μ-loop
 table-requires c κs =
-    let given = c .before .before .before .before .before .before in
+    let at-blank = c .before .before in
+    let given = at-blank .before .before .before .before in
     let p = given .args .p in
     (omega (arith, checks-most p (given .pre .0 .valid) (p .nested), c .before .checks .ensures), search needs)
 
@@ -48,16 +49,26 @@ slice-aggregate-write-fours c = search needs
 
 write-fours-requires : tie.Need-write-fours-requires Inv-loop μ-loop
 write-fours-requires c κs =
-    let given = c .before .before .before .before .before .before .before .before .before .before in
-    (given .pre .0, given .pre .1, c .before .before .before .before .before .checks .ensures, c .before .before .before .table .ensures)
+    let at-table = c .before .before .before in
+    let at-checks = at-table .before .before in
+    let at-blank = at-checks .before in
+    let given = at-blank .before .before .before .before in (
+      given .pre .0,
+      given .pre .1,
+      at-checks .checks .ensures,
+      at-table .table .ensures,
+    )
 
 loop-holds : tie.Need-loop-holds Inv-loop μ-loop
 loop-holds c =
-    let given = c .before .before .before .before .before .before .before .before .before .before .before .before .before in
-    let (most, start, right) = c .before .before .write-fours .ensures in (
+    let at-write-fours = c .before .before in
+    let at-table = at-write-fours .before .before .before .before in
+    let at-blank = at-table .before .before .before in
+    let given = at-blank .before .before .before .before in
+    let (most, start, right) = at-write-fours .write-fours .ensures in (
       most,
       start,
-      record { size = search needs; table = λ h. c .before .before .before .before .before .before .table .ensures },
+      record { size = search needs; table = λ h. at-table .table .ensures },
       record { valid = given .pre .0 .valid; size = omega (arith, c .before .out .given, given .pre .0 .size) },
       right,
     )
@@ -67,7 +78,10 @@ sub-i c = search needs
 
 cast-checks : tie.Need-cast-checks Inv-loop μ-loop
 cast-checks c =
-    let given = c .before .before .before .before .before .before .before .before .before .before .before .before .before .before .before in
+    let at-write-fours = c .before .before .before .before in
+    let at-table = at-write-fours .before .before .before .before in
+    let at-blank = at-table .before .before .before in
+    let given = at-blank .before .before .before .before in
     record { fits = omega (arith, given .pre .0 .valid .subwords, c .before .loop .inv .0) }
 
 checks-requires-2 : tie.Need-checks-requires-2 Inv-loop μ-loop
@@ -81,28 +95,49 @@ slice-aggregate-prepare c = search needs
 
 prepare-requires : tie.Need-prepare-requires Inv-loop μ-loop
 prepare-requires c κs =
-    let given = c .before .before .before .before .before .before .before .before .before .before .before .before .before .before .before .before .before in
-    let now = c .before .before .before .loop in
+    let at-loop = c .before .before .before in
+    let at-write-fours = at-loop .before .before .before in
+    let at-table = at-write-fours .before .before .before .before in
+    let at-blank = at-table .before .before .before in
+    let given = at-blank .before .before .before .before in
+    let now = at-loop .loop in
     let p = given .args .p in
-    let k = c .before .checks2 .ensures in
-    (now .inv .2, omega (arith, checks-some p (given .pre .0 .valid) (now .i - 1), k), omega (arith, checks-most p (given .pre .0 .valid) (now .i - 1), k))
+    let k = c .before .checks2 .ensures in (
+      now .inv .2,
+      omega (arith, checks-some p (given .pre .0 .valid) (now .i - 1), k),
+      omega (arith, checks-most p (given .pre .0 .valid) (now .i - 1), k),
+    )
 
 sub-start : tie.Need-sub-start Inv-loop μ-loop
 sub-start c =
-    let given = c .before .before .before .before .before .before .before .before .before .before .before .before .before .before .before .before .before .before .before in
-    let now = c .before .before .before .before .before .loop in
-    let test = c .before .before .before .before .loop-test .taken in
-    let checks = c .before .before .before .checks2 .ensures in
-    let here = stretch (given .args .p) (given .pre .0 .valid) _ (now .i) _ (now .end) test (now .inv .0) (given .pre .1) checks (now .inv .1) in
+    let at-checks2 = c .before .before .before in
+    let at-loop-test = at-checks2 .before in
+    let at-loop = at-loop-test .before in
+    let at-write-fours = at-loop .before .before .before in
+    let at-table = at-write-fours .before .before .before .before in
+    let at-blank = at-table .before .before .before in
+    let given = at-blank .before .before .before .before in
+    let now = at-loop .loop in
+    let test = at-loop-test .loop-test .taken in
+    let checks = at-checks2 .checks2 .ensures in
+    let here = stretch (given .args .p) (given .pre .0 .valid) _ (now .i) _ (now .end) test (now .inv .0)
+    (given .pre .1) checks (now .inv .1) in
     here .checks-le
 
 sub-start-2 : tie.Need-sub-start-2 Inv-loop μ-loop
 sub-start-2 c =
-    let given = c .before .before .before .before .before .before .before .before .before .before .before .before .before .before .before .before .before .before .before in
-    let now = c .before .before .before .before .before .loop in
-    let test = c .before .before .before .before .loop-test .taken in
-    let checks = c .before .before .before .checks2 .ensures in
-    let here = stretch (given .args .p) (given .pre .0 .valid) _ (now .i) _ (now .end) test (now .inv .0) (given .pre .1) checks (now .inv .1) in
+    let at-checks2 = c .before .before .before in
+    let at-loop-test = at-checks2 .before in
+    let at-loop = at-loop-test .before in
+    let at-write-fours = at-loop .before .before .before in
+    let at-table = at-write-fours .before .before .before .before in
+    let at-blank = at-table .before .before .before in
+    let given = at-blank .before .before .before .before in
+    let now = at-loop .loop in
+    let test = at-loop-test .loop-test .taken in
+    let checks = at-checks2 .checks2 .ensures in
+    let here = stretch (given .args .p) (given .pre .0 .valid) _ (now .i) _ (now .end) test (now .inv .0)
+    (given .pre .1) checks (now .inv .1) in
     here .length-le
 
 slice-aggregate-write-subword : tie.Need-slice-aggregate-write-subword Inv-loop μ-loop
@@ -116,26 +151,43 @@ part-write-subword-start c = omega arith
 
 part-write-subword-end : tie.Need-part-write-subword-end Inv-loop μ-loop
 part-write-subword-end c =
-    let given = c .before .before .before .before .before .before .before .before .before .before .before .before .before .before .before .before .before .before .before .before in
-    let now = c .before .before .before .before .before .before .loop in
-    let test = c .before .before .before .before .before .loop-test .taken in
-    let checks = c .before .before .before .before .checks2 .ensures in
-    let here = stretch (given .args .p) (given .pre .0 .valid) _ (now .i) _ (now .end) test (now .inv .0) (given .pre .1) checks (now .inv .1) in
+    let at-checks2 = c .before .before .before .before in
+    let at-loop-test = at-checks2 .before in
+    let at-loop = at-loop-test .before in
+    let at-write-fours = at-loop .before .before .before in
+    let at-table = at-write-fours .before .before .before .before in
+    let at-blank = at-table .before .before .before in
+    let given = at-blank .before .before .before .before in
+    let now = at-loop .loop in
+    let test = at-loop-test .loop-test .taken in
+    let checks = at-checks2 .checks2 .ensures in
+    let here = stretch (given .args .p) (given .pre .0 .valid) _ (now .i) _ (now .end) test (now .inv .0)
+    (given .pre .1) checks (now .inv .1) in
     here .end-le
 
 write-subword-requires : tie.Need-write-subword-requires Inv-loop μ-loop
 write-subword-requires c κs =
-    let given = c .before .before .before .before .before .before .before .before .before .before .before .before .before .before .before .before .before .before .before .before .before .before in
-    let now = c .before .before .before .before .before .before .before .before .loop in
-    let test = c .before .before .before .before .before .before .before .loop-test .taken in
-    let checks = c .before .before .before .before .before .before .checks2 .ensures in
-    let here = stretch (given .args .p) (given .pre .0 .valid) _ (now .i) _ (now .end) test (now .inv .0) (given .pre .1) checks (now .inv .1) in
+    let at-prepare = c .before .before .before .before in
+    let at-checks2 = at-prepare .before .before in
+    let at-loop-test = at-checks2 .before in
+    let at-loop = at-loop-test .before in
+    let at-write-fours = at-loop .before .before .before in
+    let at-table = at-write-fours .before .before .before .before in
+    let at-blank = at-table .before .before .before in
+    let given = at-blank .before .before .before .before in
+    let now = at-loop .loop in
+    let test = at-loop-test .loop-test .taken in
+    let checks = at-checks2 .checks2 .ensures in
+    let here = stretch (given .args .p) (given .pre .0 .valid) _ (now .i) _ (now .end) test (now .inv .0)
+    (given .pre .1) checks (now .inv .1) in
     let input = given .args .input .now in
-    let start = now .end - (given .args .p .length - c .before .before .before .before .before .before .checks2 .result) in
+    let start =
+    now .end - (given .args .p .length - at-checks2 .checks2 .result) in
     let fits : now .end - start ≤ length (drop start input) = omega (arith, length-drop start input, here .end-le) in (
       now .inv .3,
       here .less,
-      table-for (c .before .before .before .before .before .before .checks2 .ensures) (c .before .before .before .before .prepare .ensures),
+      table-for (at-checks2 .checks2 .ensures)
+          (at-prepare .prepare .ensures),
       length-take-le (now .end - start) (drop start input) fits ∙ here .size,
     )
 
@@ -144,31 +196,54 @@ loop-less c = search needs
 
 loop-again : tie.Need-loop-again Inv-loop μ-loop
 loop-again c =
-    let given = c .before .before .before .before .before .before .before .before .before .before .before .before .before .before .before .before .before .before .before .before .before .before .before .before .before in
-    let now = c .before .before .before .before .before .before .before .before .before .before .before .loop in
-    let test = c .before .before .before .before .before .before .before .before .before .before .loop-test .taken in
-    let checks = c .before .before .before .before .before .before .before .before .before .checks2 .ensures in
-    let here = stretch (given .args .p) (given .pre .0 .valid) _ (now .i) _ (now .end) test (now .inv .0) (given .pre .1) checks (now .inv .1) in
+    let at-write-subword-arg = c .before .before .before .before in
+    let at-prepare = at-write-subword-arg .before .before .before in
+    let at-checks2 = at-prepare .before .before in
+    let at-loop-test = at-checks2 .before in
+    let at-loop = at-loop-test .before in
+    let at-write-fours = at-loop .before .before .before in
+    let at-table = at-write-fours .before .before .before .before in
+    let at-blank = at-table .before .before .before in
+    let given = at-blank .before .before .before .before in
+    let now = at-loop .loop in
+    let test = at-loop-test .loop-test .taken in
+    let checks = at-checks2 .checks2 .ensures in
+    let here = stretch (given .args .p) (given .pre .0 .valid) _ (now .i) _ (now .end) test (now .inv .0)
+    (given .pre .1) checks (now .inv .1) in
     let p = given .args .p in
     let ok = given .pre .0 .valid in
     let input = given .args .input .now in
-    let start = now .end - (p .length - c .before .before .before .before .before .before .before .before .before .checks2 .result) in
+    let start = now .end
+    - (p .length - at-checks2 .checks2 .result) in
     let fits : start + (now .end - start) ≤ length input = omega (arith, here .end-le) in (
       omega (arith, now .inv .0),
       here .start,
-      record { size = search needs; table = λ h. c .before .before .before .before .before .before .before .prepare .ensures },
+      record {
+        size = search needs;
+        table = λ h. at-prepare .prepare .ensures;
+      },
       record { valid = ok; size = omega (arith, c .before .out2 .given, now .inv .3 .size) },
-      upper-next p ok _ (bytes input) _ _ (now .i - 1) (part-data p (now .i - 1) start (now .end - start) input (here .start) (here .size) fits)
+      upper-next p ok _ (bytes input) _ _ (now .i - 1)
+          (part-data p (now .i - 1) start (now .end - start) input (here .start) (here .size) fits)
           (c .before .before .write-subword .ensures) (λ k h l. now .inv .4 k (omega (arith, h)) l),
     )
 
 same-length : tie.Need-same-length Inv-loop μ-loop
-same-length c = c .before .loop .inv .3 .size ∙ sym (c .before .before .before .before .before .before .before .before .before .before .before .before .before .before .before .pre .0 .size)
+same-length c =
+    let at-write-fours = c .before .before .before .before in
+    let at-table = at-write-fours .before .before .before .before in
+    let at-blank = at-table .before .before .before in
+    let given = at-blank .before .before .before .before in
+    c .before .loop .inv .3 .size ∙ sym (given .pre .0 .size)
 
 returns : tie.Need-returns Inv-loop μ-loop
 returns c =
-    let given = c .before .before .before .before .before .before .before .before .before .before .before .before .before .before .before in
-    all-right (given .args .p) (given .pre .0 .valid) _ _ (λ k l. c .before .loop .inv .4 k (omega (arith, c .loop-test .left)) l)
+    let at-write-fours = c .before .before .before .before in
+    let at-table = at-write-fours .before .before .before .before in
+    let at-blank = at-table .before .before .before in
+    let given = at-blank .before .before .before .before in
+    all-right (given .args .p) (given .pre .0 .valid) _ _
+    (λ k l. c .before .loop .inv .4 k (omega (arith, c .loop-test .left)) l)
 
 pub write-spec : {M : Type 1} → statement M
 write-spec =

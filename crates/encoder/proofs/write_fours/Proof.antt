@@ -24,7 +24,9 @@ cast-one : tie.Need-cast-one Inv-loop μ-loop
 cast-one c = search needs
 
 sub-one : tie.Need-sub-one Inv-loop μ-loop
-sub-one c = let given = c .before .before .before .before in omega (arith, given .pre .2, checks-below (given .args .p) (given .pre .0 .valid) (given .args .p .nested))
+sub-one c =
+    let given = c .before .before .before .before in
+    omega (arith, given .pre .2, checks-below (given .args .p) (given .pre .0 .valid) (given .args .p .nested))
 
 cast-least : tie.Need-cast-least Inv-loop μ-loop
 cast-least c = search needs
@@ -37,50 +39,63 @@ cast-i c = search needs
 
 loop-holds : tie.Need-loop-holds Inv-loop μ-loop
 loop-holds c =
-    let given = c .before .before .before .before .before .before in
-    (omega arith, given .pre .1 ∙ sym (data-size-is (given .args .p) (given .pre .0 .valid)), given .pre .0, λ k h l. absurd (omega arith))
+    let at-shared-slice-known2 = c .before .before .before .before in
+    let given = at-shared-slice-known2 .before .before in (
+      omega arith,
+      given .pre .1 ∙ sym (data-size-is (given .args .p) (given .pre .0 .valid)),
+      given .pre .0,
+      λ k h l. absurd (omega arith),
+    )
 
 sub-i : tie.Need-sub-i Inv-loop μ-loop
 sub-i c = search needs
 
 sub-d : tie.Need-sub-d Inv-loop μ-loop
 sub-d c =
-    let given = c .before .before .before .before .before .before .before .before in
+    let at-struct-known = c .before .before .before .before in
+    let given = at-struct-known .before .before .before .before in
     let now = c .before .loop in
     let (i-le, end-is, fits, right) = now .inv in
     let p = given .args .p in
     let k = given .args .k in
-    let here = quarters p (fits .valid) _ (now .i) k (now .end) (c .loop-test .taken) i-le (given .pre .1) (given .pre .2) end-is in
+    let here = quarters p (fits .valid) _ (now .i) k (now .end) (c .loop-test .taken) i-le (given .pre .1)
+    (given .pre .2) end-is in
     here .d-le
 
 sub-c : tie.Need-sub-c Inv-loop μ-loop
 sub-c c =
-    let given = c .before .before .before .before .before .before .before .before in
+    let at-struct-known = c .before .before .before .before in
+    let given = at-struct-known .before .before .before .before in
     let now = c .before .loop in
     let (i-le, end-is, fits, right) = now .inv in
     let p = given .args .p in
     let k = given .args .k in
-    let here = quarters p (fits .valid) _ (now .i) k (now .end) (c .loop-test .taken) i-le (given .pre .1) (given .pre .2) end-is in
+    let here = quarters p (fits .valid) _ (now .i) k (now .end) (c .loop-test .taken) i-le (given .pre .1)
+    (given .pre .2) end-is in
     here .c-le
 
 sub-b : tie.Need-sub-b Inv-loop μ-loop
 sub-b c =
-    let given = c .before .before .before .before .before .before .before .before in
+    let at-struct-known = c .before .before .before .before in
+    let given = at-struct-known .before .before .before .before in
     let now = c .before .loop in
     let (i-le, end-is, fits, right) = now .inv in
     let p = given .args .p in
     let k = given .args .k in
-    let here = quarters p (fits .valid) _ (now .i) k (now .end) (c .loop-test .taken) i-le (given .pre .1) (given .pre .2) end-is in
+    let here = quarters p (fits .valid) _ (now .i) k (now .end) (c .loop-test .taken) i-le (given .pre .1)
+    (given .pre .2) end-is in
     here .b-le
 
 sub-a : tie.Need-sub-a Inv-loop μ-loop
 sub-a c =
-    let given = c .before .before .before .before .before .before .before .before in
+    let at-struct-known = c .before .before .before .before in
+    let given = at-struct-known .before .before .before .before in
     let now = c .before .loop in
     let (i-le, end-is, fits, right) = now .inv in
     let p = given .args .p in
     let k = given .args .k in
-    let here = quarters p (fits .valid) _ (now .i) k (now .end) (c .loop-test .taken) i-le (given .pre .1) (given .pre .2) end-is in
+    let here = quarters p (fits .valid) _ (now .i) k (now .end) (c .loop-test .taken) i-le (given .pre .1)
+    (given .pre .2) end-is in
     here .a-le
 
 sub-write-four : tie.Need-sub-write-four Inv-loop μ-loop
@@ -91,12 +106,14 @@ part-write-four-start c = omega arith
 
 part-write-four-end : tie.Need-part-write-four-end Inv-loop μ-loop
 part-write-four-end c =
-    let given = c .before .before .before .before .before .before .before .before in
+    let at-struct-known = c .before .before .before .before in
+    let given = at-struct-known .before .before .before .before in
     let now = c .before .loop in
     let (i-le, end-is, fits, right) = now .inv in
     let p = given .args .p in
     let k = given .args .k in
-    let here = quarters p (fits .valid) _ (now .i) k (now .end) (c .loop-test .taken) i-le (given .pre .1) (given .pre .2) end-is in
+    let here = quarters p (fits .valid) _ (now .i) k (now .end) (c .loop-test .taken) i-le (given .pre .1)
+    (given .pre .2) end-is in
     omega (arith, here .end-le)
 
 sub-write-four-2 : tie.Need-sub-write-four-2 Inv-loop μ-loop
@@ -107,12 +124,15 @@ part-write-four-start-2 c = omega arith
 
 part-write-four-end-2 : tie.Need-part-write-four-end-2 Inv-loop μ-loop
 part-write-four-end-2 c =
-    let given = c .before .before .before .before .before .before .before .before .before in
-    let now = c .before .before .loop in
+    let at-loop = c .before .before in
+    let at-slice-known = at-loop .before .before .before .before in
+    let given = at-slice-known .before .before .before in
+    let now = at-loop .loop in
     let (i-le, end-is, fits, right) = now .inv in
     let p = given .args .p in
     let k = given .args .k in
-    let here = quarters p (fits .valid) _ (now .i) k (now .end) (c .before .loop-test .taken) i-le (given .pre .1) (given .pre .2) end-is in
+    let here = quarters p (fits .valid) _ (now .i) k (now .end) (c .before .loop-test .taken) i-le (given .pre .1)
+    (given .pre .2) end-is in
     omega (arith, here .end-le)
 
 sub-write-four-3 : tie.Need-sub-write-four-3 Inv-loop μ-loop
@@ -123,12 +143,15 @@ part-write-four-start-3 c = omega arith
 
 part-write-four-end-3 : tie.Need-part-write-four-end-3 Inv-loop μ-loop
 part-write-four-end-3 c =
-    let given = c .before .before .before .before .before .before .before .before .before .before in
-    let now = c .before .before .before .loop in
+    let at-loop = c .before .before .before in
+    let at-slice-known = at-loop .before .before .before .before in
+    let given = at-slice-known .before .before .before in
+    let now = at-loop .loop in
     let (i-le, end-is, fits, right) = now .inv in
     let p = given .args .p in
     let k = given .args .k in
-    let here = quarters p (fits .valid) _ (now .i) k (now .end) (c .before .before .loop-test .taken) i-le (given .pre .1) (given .pre .2) end-is in
+    let here = quarters p (fits .valid) _ (now .i) k (now .end) (c .before .before .loop-test .taken) i-le
+    (given .pre .1) (given .pre .2) end-is in
     omega (arith, here .end-le)
 
 sub-write-four-4 : tie.Need-sub-write-four-4 Inv-loop μ-loop
@@ -139,23 +162,31 @@ part-write-four-start-4 c = omega arith
 
 part-write-four-end-4 : tie.Need-part-write-four-end-4 Inv-loop μ-loop
 part-write-four-end-4 c =
-    let given = c .before .before .before .before .before .before .before .before .before .before .before in
-    let now = c .before .before .before .before .loop in
+    let at-loop-test = c .before .before .before in
+    let at-loop = at-loop-test .before in
+    let at-slice-known = at-loop .before .before .before .before in
+    let given = at-slice-known .before .before .before in
+    let now = at-loop .loop in
     let (i-le, end-is, fits, right) = now .inv in
     let p = given .args .p in
     let k = given .args .k in
-    let here = quarters p (fits .valid) _ (now .i) k (now .end) (c .before .before .before .loop-test .taken) i-le (given .pre .1) (given .pre .2) end-is in
+    let here = quarters p (fits .valid) _ (now .i) k (now .end) (at-loop-test .loop-test .taken) i-le
+    (given .pre .1) (given .pre .2) end-is in
     omega (arith, here .end-le)
 
 write-four-requires : tie.Need-write-four-requires Inv-loop μ-loop
 write-four-requires c κs =
-    let given = c .before .before .before .before .before .before .before .before .before .before .before .before .before in
-    let now = c .before .before .before .before .before .before .loop in
+    let at-write-four-arg = c .before .before .before .before in
+    let at-loop-test = at-write-four-arg .before in
+    let at-loop = at-loop-test .before in
+    let at-slice-known = at-loop .before .before .before .before in
+    let given = at-slice-known .before .before .before in
+    let now = at-loop .loop in
     let (i-le, end-is, fits, right) = now .inv in
     let p = given .args .p in
     let k = given .args .k in
     let one = p .length - k in
-    let taken = c .before .before .before .before .before .loop-test .taken in
+    let taken = at-loop-test .loop-test .taken in
     let here = quarters p (fits .valid) _ (now .i) k (now .end) taken i-le (given .pre .1) (given .pre .2) end-is in
     let i = now .i - 4 in
     let input = given .args .input .now in
@@ -176,13 +207,17 @@ loop-less c = search needs
 
 loop-again : tie.Need-loop-again Inv-loop μ-loop
 loop-again c =
-    let given = c .before .before .before .before .before .before .before .before .before .before .before .before .before .before .before .before in
-    let now = c .before .before .before .before .before .before .before .before .before .loop in
+    let at-write-four-arg4 = c .before .before .before .before in
+    let at-loop-test = at-write-four-arg4 .before .before .before .before in
+    let at-loop = at-loop-test .before in
+    let at-slice-known = at-loop .before .before .before .before in
+    let given = at-slice-known .before .before .before in
+    let now = at-loop .loop in
     let (i-le, end-is, fits, right) = now .inv in
     let p = given .args .p in
     let k = given .args .k in
     let one = p .length - k in
-    let taken = c .before .before .before .before .before .before .before .before .loop-test .taken in
+    let taken = at-loop-test .loop-test .taken in
     let here = quarters p (fits .valid) _ (now .i) k (now .end) taken i-le (given .pre .1) (given .pre .2) end-is in
     let i = now .i - 4 in
     let input = given .args .input .now in (
@@ -190,15 +225,23 @@ loop-again c =
       here .a,
       record { valid = fits .valid; size = omega (arith, c .before .out .given, fits .size) },
       upper-four p (fits .valid) _ _ _ _ (bytes input) _ _ i
-          (quarter-data p i _ (now .end - one - one - one) one input refl (here .a-le) (omega (arith, here .end-le)) (here .lengths i (omega arith)) (here .a))
-          (quarter-data p (i + 1) _ (now .end - one - one) one input refl (here .b-le) (omega (arith, here .end-le)) (here .lengths (i + 1) (omega arith)) (here .b))
-          (quarter-data p (i + 2) _ (now .end - one) one input refl (here .c-le) (omega (arith, here .end-le)) (here .lengths (i + 2) (omega arith)) (here .c))
-          (quarter-data p (i + 3) _ (now .end) one input refl (here .d-le) (omega (arith, here .end-le)) (here .lengths (i + 3) (omega arith)) (here .d))
+          (quarter-data p i _ (now .end - one - one - one) one input refl (here .a-le) (omega (arith, here .end-le))
+          (here .lengths i (omega arith)) (here .a))
+          (quarter-data p (i + 1) _ (now .end - one - one) one input refl (here .b-le) (omega (arith, here .end-le))
+          (here .lengths (i + 1) (omega arith)) (here .b))
+          (quarter-data p (i + 2) _ (now .end - one) one input refl (here .c-le) (omega (arith, here .end-le))
+          (here .lengths (i + 2) (omega arith)) (here .c))
+          (quarter-data p (i + 3) _ (now .end) one input refl (here .d-le) (omega (arith, here .end-le))
+          (here .lengths (i + 3) (omega arith)) (here .d))
           (c .before .before .write-four .ensures) (λ k h l. right k (omega (arith, h, taken)) l),
     )
 
 same-length : tie.Need-same-length Inv-loop μ-loop
-same-length c = c .before .loop .inv .2 .size ∙ sym (c .before .before .before .before .before .before .before .before .pre .0 .size)
+same-length c =
+    let at-struct-known = c .before .before .before .before in
+    let given = at-struct-known .before .before .before .before in
+    c .before .loop .inv .2 .size
+    ∙ sym (given .pre .0 .size)
 
 returns : tie.Need-returns Inv-loop μ-loop
 returns c = let (i-le, end-is, _, right) = c .before .loop .inv in (i-le, end-is, right)

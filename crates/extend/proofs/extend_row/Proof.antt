@@ -40,12 +40,14 @@ array-share-prefix-word c = search needs
 
 slice-aggregate-residue : tie.Need-slice-aggregate-residue
 slice-aggregate-residue c =
-    let given = c .before .before .before .before .before .before .before .before in
+    let at-struct-known = c .before .before .before .before in
+    let given = at-struct-known .before .before .before .before in
     sym (length-take-le (given .args .p .length) _ (omega (arith, given .pre .0 .valid .length)))
 
 residue-requires : tie.Need-residue-requires
 residue-requires c κs =
-    let given = c .before .before .before .before .before .before .before .before in
+    let at-struct-known = c .before .before .before .before in
+    let given = at-struct-known .before .before .before .before in
     let p = given .args .p in
     let ok = given .pre .0 .valid in
     let k = c .before .before .further .ensures in
@@ -57,36 +59,65 @@ residue-requires c κs =
 
 array-share-prefix-left : tie.Need-array-share-prefix-left
 array-share-prefix-left c =
-    let given = c .before .before .before .before .before .before .before .before .before in
+    let at-further = c .before .before .before in
+    let at-if1 = at-further .before .before .before in
+    let given = at-if1 .before .before .before in
     let long : length (c .residue .result) ≡ 48 = search needs in
-    omega (arith, checks-most (given .args .p) (given .pre .0 .valid) 0, c .before .before .before .further .ensures, long)
+    omega (
+      arith,
+      checks-most (given .args .p) (given .pre .0 .valid) 0,
+      at-further .further .ensures,
+      long,
+    )
 
 slice-aggregate-at-roots : tie.Need-slice-aggregate-at-roots
 slice-aggregate-at-roots c =
-    let given = c .before .before .before .before .before .before .before .before .before .before in
+    let at-further = c .before .before .before .before in
+    let at-if1 = at-further .before .before .before in
+    let given = at-if1 .before .before .before in
     let long : length (c .before .residue .result) ≡ 48 = search needs in
-    sym (length-take-le (c .before .before .before .before .further .result) _ (omega (arith, checks-most (given .args .p) (given .pre .0 .valid) 0, c .before .before .before .before .further .ensures, long)))
+    sym (length-take-le (at-further .further .result) _ (omega (
+      arith,
+      checks-most (given .args .p) (given .pre .0 .valid) 0,
+      at-further .further .ensures,
+      long,
+    )))
 
 at-roots-requires : tie.Need-at-roots-requires
-at-roots-requires c κs = let given = c .before .before .before .before .before .before .before .before .before .before in omega (arith, given .pre .4, checks-most (given .args .p) (given .pre .0 .valid) 0)
+at-roots-requires c κs =
+    let at-merge = c .before .before .before in
+    let at-if1 = at-merge .before .before .before .before in
+    let given = at-if1 .before .before .before in
+    omega (arith, given .pre .4, checks-most (given .args .p) (given .pre .0 .valid) 0)
 
 splice-requires : tie.Need-splice-requires
-splice-requires c κs = let given = c .before .before .before .before .before .before .before .before .before .before .before in omega (arith, given .pre .4, checks-most (given .args .p) (given .pre .0 .valid) 0)
+splice-requires c κs =
+    let at-merge = c .before .before .before .before in
+    let at-if1 = at-merge .before .before .before .before in
+    let given = at-if1 .before .before .before in
+    omega (arith, given .pre .4, checks-most (given .args .p) (given .pre .0 .valid) 0)
 
 returns-2 : tie.Need-returns-2
 returns-2 c =
-    let given = c .before .before .before .before .before .before .before .before .before .before .before .before in
+    let at-residue = c .before .before .before in
+    let at-merge = at-residue .before .before in
+    let at-further = at-merge .before in
+    let at-if1 = at-further .before .before .before in
+    let given = at-if1 .before .before .before in
     let x = given .args in
     let p = x .p in
     let ok = given .pre .0 .valid in
-    let merge = c .before .before .before .before .before .merge in
-    let residue = c .before .before .before .residue in
-    let k = c .before .before .before .before .before .before .further .ensures in
+    let merge = at-merge .merge in
+    let residue = at-residue .residue in
+    let k = at-further .further .ensures in
     let long : length (residue .result) ≡ 48 = search needs in
-    extended-word p (x .from) (x .to) (x .t3) _ (x .i) _ _ _ (meets _ (c .before .before .before .before .before .before .before .before .before .if1 .left))
+    extended-word p (x .from) (x .to) (x .t3) _ (x .i) _ _ _
+    (meets _ (at-if1 .if1 .left))
     (λ j low h.
-    left-syndrome (2 * p .t0) (p .length) _ (x .to) _ (merge .result) (residue .result) _ (omega (arith, checks-least p ok 0, checks-most p ok 0, k))
-    (omega (arith, given .pre .4, k)) (omega (arith, ok .length)) long (merge .ensures) (residue .ensures) (c .before .at-roots .ensures) j
+    left-syndrome (2 * p .t0) (p .length) _ (x .to) _ (merge .result) (residue .result) _
+    (omega (arith, checks-least p ok 0, checks-most p ok 0, k))
+    (omega (arith, given .pre .4, k)) (omega (arith, ok .length)) long (merge .ensures) (residue .ensures)
+    (c .before .at-roots .ensures) j
     (omega (arith, given .pre .3, low)) h)
     (c .splice .ensures)
 

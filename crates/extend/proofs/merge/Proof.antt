@@ -14,7 +14,8 @@ use Rattle.extend.proofs.merge.Tie as tie
 abbrev Inv-loop : tie.InvT-loop
 Inv-loop p pending block i m word₀ k₀ word k =
     (k ≤ m) × (length word ≡ 255)
-    × (bytes word ≡ cut (p .length) (combined (p .length) (bytes block) (lagrange (p .subwords) (flag pending) i) 0 (k - 0)))
+    × (bytes word
+    ≡ cut (p .length) (combined (p .length) (bytes block) (lagrange (p .subwords) (flag pending) i) 0 (k - 0)))
 
 abbrev μ-loop : tie.MeasureT-loop
 μ-loop p pending block i m word₀ k₀ word k = m - k
@@ -33,8 +34,12 @@ slice-aggregate-add-multiple c = search needs
 
 add-multiple-requires : tie.Need-add-multiple-requires Inv-loop μ-loop
 add-multiple-requires c κs =
-    let given = c .before .before .before .before .before .before in
-    (given .pre, c .before .before .loop-test .taken, omega (arith, given .pre .valid .length, c .before .before .before .loop .inv .1))
+    let at-loop = c .before .before .before in
+    let given = at-loop .before .before .before in (
+      given .pre,
+      c .before .before .loop-test .taken,
+      omega (arith, given .pre .valid .length, at-loop .loop .inv .1),
+    )
 
 add-k : tie.Need-add-k Inv-loop μ-loop
 add-k c = search needs
@@ -44,9 +49,11 @@ loop-less c = search needs
 
 loop-again : tie.Need-loop-again Inv-loop μ-loop
 loop-again c =
-    let now = c .before .before .before .before .before .loop in
-    let factor = c .before .before .before .lagrange .ensures in (
-      omega (arith, c .before .before .before .before .loop-test .taken),
+    let at-lagrange = c .before .before .before in
+    let at-loop-test = at-lagrange .before in
+    let now = at-loop-test .before .loop in
+    let factor = at-lagrange .lagrange .ensures in (
+      omega (arith, at-loop-test .loop-test .taken),
       omega (arith, c .word2 .given, now .inv .1),
       combined-more _ _ _ 0 (now .k) _ _ _ (omega arith) factor (now .inv .2) (c .before .add-multiple .ensures),
     )
@@ -58,7 +65,8 @@ returns c =
     let p = given .p in
     let e : end .k - 0 ≡ p .subwords = omega (arith, end .inv .0) in
     end .inv .2
-    ∙ ap (λ r. cut (p .length) (combined (p .length) (bytes (given .block .now)) (lagrange (p .subwords) (flag (given .pending)) (given .i)) 0 r)) e
+    ∙ ap (λ r. cut (p .length) (combined (p .length) (bytes (given .block .now))
+    (lagrange (p .subwords) (flag (given .pending)) (given .i)) 0 r)) e
 
 pub merge-spec : {M : Type 1} → statement M
 merge-spec =

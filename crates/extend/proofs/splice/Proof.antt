@@ -12,7 +12,8 @@ use Rattle.extend.proofs.splice.Statement.{statement}
 use Rattle.extend.proofs.splice.Tie as tie
 
 abbrev Inv-loop : tie.InvT-loop
-Inv-loop from to s out₀ j₀ out j = (from ≤ j) × (j ≤ to + (from - to)) × (length out ≡ 48) × (row out ≡ window from j (row s) (row out₀))
+Inv-loop from to s out₀ j₀ out j = (from ≤ j) × (j ≤ to + (from - to)) × (length out ≡ 48)
+    × (row out ≡ window from j (row s) (row out₀))
 
 abbrev μ-loop : tie.MeasureT-loop
 μ-loop from to s out₀ j₀ out j = to - j

@@ -1,7 +1,8 @@
 -- The table of powers is the one defined, entry by entry: antt computes it here.
 use mathlib.Core.Path.{ap, _∙_}
 use mathlib.Core.Bool.{xor}
-use Rattle.field.specs.Definition.{𝟎, 𝟏, α, _⊕_, _⊙_, times, plus, scale, z⁸, horner, modulo, coefficients, bit, byte, powers, of}
+use Rattle.field.specs.Definition.{𝟎, 𝟏, α, _⊕_, _⊙_, times, plus, scale, z⁸, horner, modulo}
+use Rattle.field.specs.Definition.{coefficients, bit, byte, powers, of}
 use Rattle.field.specs.Byte.{of-byte}
 use Rattle.field.specs.Log.{powerTable, powerTable-at}
 use Rattle.field.proofs.powers.Statement.{statement}

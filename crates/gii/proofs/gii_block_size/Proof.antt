@@ -15,8 +15,11 @@ sizes-of-requires c κs = search needs
 returns : tie.Need-returns
 returns c =
     let profile = c .before .before .args .profile .now in
-    let is = c .sizes-of .ensures .0 in
-    (is, ap (λ (n : ℕ). eqb n 0) is ∙ size-refuses block-size block-some profile (omega (arith, c .before .shared-slice-known .given 2)))
+    let is = c .sizes-of .ensures .0 in (
+      is,
+      ap (λ (n : ℕ). eqb n 0) is
+          ∙ size-refuses block-size block-some profile (omega (arith, c .before .shared-slice-known .given 2)),
+    )
 
 pub gii-block-size-spec : {M : Type 1} → statement M
 gii-block-size-spec = tie.close (tie.spec sizes-of-requires returns)

@@ -38,13 +38,16 @@ same-length-2 c = search needs
 
 returns : tie.Need-returns
 returns c =
-    let listed = c .before .before .before .before .before .before in
+    let at-fill = c .before .before .before in
+    let listed = at-fill .before .before .before in
     let stage = listed .before in
-    let decode = stage .before .before .before .before .before in
-    let given = decode .before .before .before .before .before .before .before .args in
+    let at-out = stage .before .before .before .before in
+    let decode = at-out .before in
+    let at-slice-known = decode .before .before .before .before in
+    let given = at-slice-known .before .before .before .args in
     let r = reading (given .profile .now) (given .input .now) (length (given .out .now)) in
     let (answer, (block, report)) = decode .decode .ensures in
-    let fill = c .before .before .before .fill in
+    let fill = at-fill .fill in
     let list =
     numbers-filled _ r (decode .decode .result .report) _ _ _ (given .report .now) _ answer report
     (stage .stage-of .ensures) (listed .list-of .ensures) (fill .ensures) in

@@ -19,7 +19,8 @@ cast-accepted-start c =
     let answer = c .before .before in
     let given = answer .before .before .before in
     let yes = sym (answer .answer .ensures) ∙ c .enum-told .given .1 in
-    let small = fetched-small (given .args .profile .now) _ _ yes (λ k. omega (arith, answer .before .before .shared-slice-known .given k)) in
+    let small = fetched-small (given .args .profile .now) _ _ yes
+    (λ k. omega (arith, answer .before .before .shared-slice-known .given k)) in
     record { fits = small }
 
 accepted-start-requires : tie.Need-accepted-start-requires
@@ -33,15 +34,23 @@ returns c =
     let told = c .before in
     let answer = told .before .before in
     let given = answer .before .before .before .args in
-    let is = start-accepted (given .profile .now) _ (given .i) _ (sym (answer .answer .ensures) ∙ told .enum-told .given .1) (c .accepted-start .ensures) in
-    (is, part-stands (fetching (given .profile .now) (length (given .block .now)) (given .i)) (given .i) _ (given .block .now) is)
+    let is = start-accepted (given .profile .now) _ (given .i) _
+    (sym (answer .answer .ensures) ∙ told .enum-told .given .1) (c .accepted-start .ensures) in (
+      is,
+      part-stands (fetching (given .profile .now) (length (given .block .now)) (given .i))
+          (given .i) _ (given .block .now) is,
+    )
 
 returns-2 : tie.Need-returns-2
 returns-2 c =
     let answer = c .before .before in
     let given = answer .before .before .before .args in
-    let is = start-refused (given .profile .now) _ (given .i) _ (sym (answer .answer .ensures) ∙ c .enum-told2 .given .1) in
-    (is, part-stands (fetching (given .profile .now) (length (given .block .now)) (given .i)) (given .i) _ (given .block .now) is)
+    let is =
+    start-refused (given .profile .now) _ (given .i) _ (sym (answer .answer .ensures) ∙ c .enum-told2 .given .1) in (
+      is,
+      part-stands (fetching (given .profile .now) (length (given .block .now)) (given .i))
+          (given .i) _ (given .block .now) is,
+    )
 
 pub gii-fetch-start-spec : {M : Type 1} → statement M
 gii-fetch-start-spec =

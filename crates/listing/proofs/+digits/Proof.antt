@@ -37,7 +37,10 @@ digits-digit-requires : (t : ℕ) → digits-lts.Need-digit-requires (
   digits-below t,
   digits.Post,
 ) (digits-at t) digits.Post
-digits-digit-requires t c κs = (omega (arith, c .before .before .before .pre .1, ap length (decimal-one _ (c .before .if1 .taken))), c .before .if1 .taken)
+digits-digit-requires t c κs = (
+  omega (arith, c .before .before .before .pre .1, ap length (decimal-one _ (c .before .if1 .taken))),
+  c .before .if1 .taken,
+)
 
 digits-same-length : (t : ℕ) → digits-lts.Need-same-length (
   digit-reads.Asked,
@@ -63,8 +66,10 @@ digits-digits-requires : (t : ℕ) → digits-lts.Need-digits-requires (
 ) (digits-at t) digits.Post
 digits-digits-requires t c κs =
     let n = c .before .before .before .args .n in
-    let high : 10 ≤ n = omega (arith, c .before .if1 .left) in
-    (omega (arith, c .before .before .before .pre .0, tenth-less n high), omega (arith, c .before .before .before .pre .1, decimal-length n high))
+    let high : 10 ≤ n = omega (arith, c .before .if1 .left) in (
+      omega (arith, c .before .before .before .pre .0, tenth-less n high),
+      omega (arith, c .before .before .before .pre .1, decimal-length n high),
+    )
 
 digits-cast-digit-2 : (t : ℕ) → digits-lts.Need-cast-digit-2 (
   digit-reads.Asked,
@@ -72,7 +77,13 @@ digits-cast-digit-2 : (t : ℕ) → digits-lts.Need-cast-digit-2 (
   digits-below t,
   digits.Post,
 ) (digits-at t) digits.Post
-digits-cast-digit-2 t c = record { fits = omega (arith, mod-lt (c .before .before .before .before .before .before .before .args .n) {m = 10} (omega arith)) }
+digits-cast-digit-2 t c =
+    let at-digits = c .before .before .before in
+    let given = at-digits .before .before .before .before in
+    record {
+      fits =
+          omega (arith, mod-lt (given .args .n) {m = 10} (omega arith));
+    }
 
 digits-digit-requires-2 : (t : ℕ) → digits-lts.Need-digit-requires-2 (
   digit-reads.Asked,
@@ -81,9 +92,11 @@ digits-digit-requires-2 : (t : ℕ) → digits-lts.Need-digit-requires-2 (
   digits.Post,
 ) (digits-at t) digits.Post
 digits-digit-requires-2 t c κs =
-    let given = c .before .before .before .before .before .before .before in
-    let before = c .before .before .before .digits .ensures in
-    let high : 10 ≤ given .args .n = omega (arith, c .before .before .before .before .before .if1 .left) in (
+    let at-digits = c .before .before .before in
+    let at-if1 = at-digits .before .before in
+    let given = at-if1 .before .before in
+    let before = at-digits .digits .ensures in
+    let high : 10 ≤ given .args .n = omega (arith, at-if1 .if1 .left) in (
       omega (arith, given .pre .1, decimal-length (given .args .n) high, before .end, before .long),
       mod-lt (given .args .n) (omega arith),
     )
@@ -94,7 +107,11 @@ digits-same-length-2 : (t : ℕ) → digits-lts.Need-same-length-2 (
   digits-below t,
   digits.Post,
 ) (digits-at t) digits.Post
-digits-same-length-2 t c = c .before .before .digit2 .ensures .long ∙ c .before .before .before .before .before .before .digits .ensures .long
+digits-same-length-2 t c =
+    let at-digit2 = c .before .before in
+    let at-digits = at-digit2 .before .before .before .before in
+    at-digit2 .digit2 .ensures .long
+    ∙ at-digits .digits .ensures .long
 
 digits-returns-2 : (t : ℕ) → digits-lts.Need-returns-2 (
   digit-reads.Asked,
@@ -102,7 +119,12 @@ digits-returns-2 : (t : ℕ) → digits-lts.Need-returns-2 (
   digits-below t,
   digits.Post,
 ) (digits-at t) digits.Post
-digits-returns-2 t c = put-high (omega (arith, c .before .before .before .before .before .before .before .before .if1 .left)) (c .before .before .before .before .before .before .digits .ensures) (c .before .before .digit2 .ensures)
+digits-returns-2 t c =
+    let at-digit2 = c .before .before in
+    let at-digits = at-digit2 .before .before .before .before in
+    let at-if1 = at-digits .before .before in
+    put-high (omega (arith, at-if1 .if1 .left))
+    (at-digits .digits .ensures) (at-digit2 .digit2 .ensures)
 
 pub +digits-spec : {M : Type 1} → statement M
 +digits-spec = close μ-digits λ t. digits-lts.spec (

@@ -18,7 +18,11 @@ field-requires : tie.Need-field-requires
 field-requires c κs = search needs
 
 returns : tie.Need-returns
-returns c = put-line (put-next (decimal (c .before .before .before .before .before .before .args .n)) (ascii "\n") (c .before .before .before .put .ensures) (c .field .ensures .0))
+returns c =
+    let at-put = c .before .before .before in
+    let given = at-put .before .before .before in
+    put-line (put-next (decimal (given .args .n)) (ascii "\n")
+    (at-put .put .ensures) (c .field .ensures .0))
 
 pub blocks-spec : {M : Type 1} → statement M
 blocks-spec =

@@ -23,7 +23,11 @@ field-requires-3 : tie.Need-field-requires-3
 field-requires-3 c κs = search needs
 
 returns : tie.Need-returns
-returns c = put-line (put-next _ _ (put-next _ _ (c .before .before .before .before .before .before .field .ensures .0) (c .before .before .before .field2 .ensures .0)) (c .field3 .ensures .0))
+returns c =
+    let at-field2 = c .before .before .before in
+    let at-field = at-field2 .before .before .before in
+    put-line (put-next _ _ (put-next _ _ (at-field .field .ensures .0)
+    (at-field2 .field2 .ensures .0)) (c .field3 .ensures .0))
 
 pub ok-spec : {M : Type 1} → statement M
 ok-spec =

@@ -28,7 +28,12 @@ slice-write-line : tie.Need-slice-write-line Inv-loop μ-loop
 slice-write-line c =
     let given = c .before .before .before .args in
     let now = c .before .before .loop in
-    omega (arith, c .before .before .before .pre, ap length (now .inv .1), length-paste (given .line .now) (given .at) (given .text .now) (now .i) (omega arith) (now .inv .0))
+    omega (
+      arith,
+      c .before .before .before .pre,
+      ap length (now .inv .1),
+      length-paste (given .line .now) (given .at) (given .text .now) (now .i) (omega arith) (now .inv .0),
+    )
 
 add-i : tie.Need-add-i Inv-loop μ-loop
 add-i c = search needs
@@ -42,8 +47,10 @@ loop-again c =
     let now = c .before .before .loop in (
       omega arith,
       ap (λ l. set l (given .at + now .i) (getD (given .text .now) (now .i) 0)) (now .inv .1)
-          ∙ paste-suc (given .line .now) (given .at) (given .text .now) (now .i) 0 (omega (arith, c .before .before .before .pre)) (omega arith)
-          ∙ ap (paste (given .line .now) (given .at) (given .text .now)) {x = suc (now .i)} {y = now .i + 1} (omega arith),
+          ∙ paste-suc (given .line .now) (given .at) (given .text .now) (now .i) 0
+          (omega (arith, c .before .before .before .pre)) (omega arith)
+          ∙ ap (paste (given .line .now) (given .at) (given .text .now)) {x = suc (now .i)}
+          {y = now .i + 1} (omega arith),
     )
 
 add-result : tie.Need-add-result Inv-loop μ-loop
@@ -53,14 +60,16 @@ same-length : tie.Need-same-length Inv-loop μ-loop
 same-length c =
     let given = c .before .before .args in
     let end = c .before .loop in
-    ap length (end .inv .1) ∙ length-paste (given .line .now) (given .at) (given .text .now) (end .i) (omega (arith, c .before .before .pre)) (end .inv .0)
+    ap length (end .inv .1) ∙ length-paste (given .line .now) (given .at) (given .text .now) (end .i)
+    (omega (arith, c .before .before .pre)) (end .inv .0)
 
 returns : tie.Need-returns Inv-loop μ-loop
 returns c =
     let given = c .before .before .args in
     let end = c .before .loop in
     let all : end .i ≡ length (given .text .now) = omega (arith, end .inv .0) in
-    put-all (given .at) (given .text .now) (given .line .now) (end .line) (c .before .before .pre) (end .inv .1 ∙ ap (paste (given .line .now) (given .at) (given .text .now)) all)
+    put-all (given .at) (given .text .now) (given .line .now) (end .line) (c .before .before .pre)
+    (end .inv .1 ∙ ap (paste (given .line .now) (given .at) (given .text .now)) all)
 
 pub put-spec : {M : Type 1} → statement M
 put-spec =

@@ -23,7 +23,8 @@ returns-2 c =
 returns-3 : tie.Need-returns-3
 returns-3 c =
     let first = c .before .before in (
-      below-clear 16 32 _ (below-clear 32 49 _ (below-poly _) (first .before .clear .ensures (not-false _ (first .if1 .left))))
+      below-clear 16 32 _
+          (below-clear 32 49 _ (below-poly _) (first .before .clear .ensures (not-false _ (first .if1 .left))))
           (c .before .clear2 .ensures (not-false _ (c .if2 .left))),
       omega arith,
     )

@@ -21,7 +21,8 @@ is-zero-requires : tie.Need-is-zero-requires Inv-loop μ-loop
 is-zero-requires c κs = search needs
 
 returns : tie.Need-returns Inv-loop μ-loop
-returns c = poly-filled 0 (filled-none 49 _) (omega arith) (below-O 0) ∙ sym (none-⊠ _ _ _ (c .before .is-zero .ensures) (c .if1 .taken))
+returns c = poly-filled 0 (filled-none 49 _) (omega arith) (below-O 0)
+    ∙ sym (none-⊠ _ _ _ (c .before .is-zero .ensures) (c .if1 .taken))
 
 returns-2 : tie.Need-returns-2 Inv-loop μ-loop
 returns-2 c =
@@ -53,7 +54,8 @@ loop-less c = search needs
 loop-again : tie.Need-loop-again Inv-loop μ-loop
 loop-again c =
     let tested = c .before .before in
-    filled-more _ (tested .before .loop .inv) (omega arith) (c .product .ensures ∙ sym (K-⊠-at _ _ _ ∙ ap₂ _⊙_ refl (poly-at _ _ (omega arith))))
+    filled-more _ (tested .before .loop .inv) (omega arith)
+    (c .product .ensures ∙ sym (K-⊠-at _ _ _ ∙ ap₂ _⊙_ refl (poly-at _ _ (omega arith))))
 
 returns-3 : tie.Need-returns-3 Inv-loop μ-loop
 returns-3 c =

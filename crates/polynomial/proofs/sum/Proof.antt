@@ -41,7 +41,8 @@ loop-again : tie.Need-loop-again Inv-loop μ-loop
 loop-again c =
     let tested = c .before .before .before in
     let l = tested .loop-test .taken in
-    filled-more _ (tested .before .loop .inv) l (c .sum .ensures ∙ sym (⊞-at _ _ _ ∙ ap₂ _⊕_ (poly-at _ _ l) (poly-at _ _ l)))
+    filled-more _ (tested .before .loop .inv) l
+    (c .sum .ensures ∙ sym (⊞-at _ _ _ ∙ ap₂ _⊕_ (poly-at _ _ l) (poly-at _ _ l)))
 
 returns : tie.Need-returns Inv-loop μ-loop
 returns c = poly-filled 49 (c .before .loop .inv) (c .loop-test .left) (below-⊞ 49 _ _ (below-poly _) (below-poly _))

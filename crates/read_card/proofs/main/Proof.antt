@@ -52,13 +52,16 @@ step-requires c κs = search needs
 
 loop-less : tie.Need-loop-less Inv-loop μ-loop
 loop-less c =
-    let tested = c .before .before .before .before .before .before in
-    c .before .step .ensures .0 (sym (tested .before .is-over .ensures) ∙ unless _ (tested .if1 .taken))
+    let at-t = c .before .before .before .before in
+    let tested = at-t .before .before in
+    let at-is-over = tested .before in
+    c .before .step .ensures .0 (sym (at-is-over .is-over .ensures) ∙ unless _ (tested .if1 .taken))
 
 loop-again : tie.Need-loop-again Inv-loop μ-loop
 loop-again c =
-    let step = c .before .step in
-    let sized = c .before .before .before .before .before in
+    let at-step = c .before in
+    let sized = at-step .before .before .before .before in
+    let step = at-step .step in
     let now = sized .before .before .before .loop in
     let same = length-front (now .bytes) (step .last .1 .1 .1 .0) (sized .size .result) (step .kept .1 .1 .1 .0) in
     (same ∙ now .inv .0, step .ensures .1 .0, step .ensures .1 .1)

@@ -28,7 +28,11 @@ slice-aggregate-locate : tie.Need-slice-aggregate-locate
 slice-aggregate-locate c = sym (length-take-le _ (c .before .numerator .result) (omega arith))
 
 locate-requires : tie.Need-locate-requires
-locate-requires c κs = (omega arith, omega arith, omega (arith, length-take-le (c .before .before .before .args .length) (c .before .numerator .result) (omega arith)))
+locate-requires c κs = (
+  omega arith,
+  omega arith,
+  omega (arith, length-take-le (c .before .before .before .args .length) (c .before .numerator .result) (omega arith)),
+)
 
 nothing-requires-2 : tie.Need-nothing-requires-2
 nothing-requires-2 c κs = search needs
@@ -37,7 +41,8 @@ returns-2 : tie.Need-returns-2
 returns-2 c =
     let at = c .before .before .before in
     let given = at .before .before .before .before in
-    few _ _ _ _ _ _ (given .pre .0) _ _ _ _ (omega arith) (at .locate .ensures) (c .nothing2 .ensures) (not-true _ (c .before .if2 .taken))
+    few _ _ _ _ _ _ (given .pre .0) _ _ _ _ (omega arith) (at .locate .ensures) (c .nothing2 .ensures)
+    (not-true _ (c .before .if2 .taken))
 
 test-requires : tie.Need-test-requires
 test-requires c κs = search needs
@@ -52,13 +57,24 @@ returns-3 c =
     let at = arm .before .before in
     let made = at .before .before in
     let given = made .before .before in
-    refused _ _ _ _ _ _ (given .pre .0) _ _ _ _ (omega arith) (at .locate .ensures) (c .nothing3 .ensures) (made .before .if1 .left)
-    (prefix-is _ _ _ (omega arith) (made .numerator .ensures)) (not-false _ (arm .if2 .left)) (sym (tested .test .ensures .1) ∙ not-true _ (c .before .if3 .taken))
+    refused _ _ _ _ _ _ (given .pre .0) _ _ _ _ (omega arith) (at .locate .ensures) (c .nothing3 .ensures)
+    (made .before .if1 .left)
+    (prefix-is _ _ _ (omega arith) (made .numerator .ensures)) (not-false _ (arm .if2 .left))
+    (sym (tested .test .ensures .1) ∙ not-true _ (c .before .if3 .taken))
 
 cast-t14 : tie.Need-cast-t14
 cast-t14 c =
     let tested = c .before .before .before in
-    record { fits = omega (arith, tested .test .ensures .0, weight-le (tested .before .before .before .before .before .before .before .before .args .n) (values (tested .before .before .before .before .locate .result .pattern))) }
+    let at-locate = tested .before .before .before .before in
+    let given = at-locate .before .before .before .before in
+    record {
+      fits = omega (
+        arith,
+        tested .test .ensures .0,
+        weight-le (given .args .n)
+            (values (at-locate .locate .result .pattern)),
+      );
+    }
 
 returns-4 : tie.Need-returns-4
 returns-4 c =

@@ -43,15 +43,23 @@ extend-requires c κs =
       given .pre .1,
       omega (arith, given .pre .2),
       omega (arith, from, capability-mono p ok 0 (given .args .r) (omega arith) (omega (arith, given .pre .2))),
-      omega (arith, to, checks-is p 0, capability-mono p ok (suc (given .args .r)) (p .nested - 0) (omega (arith, given .pre .2)) (omega arith)),
+      omega (
+        arith,
+        to,
+        checks-is p 0,
+        capability-mono p ok (suc (given .args .r)) (p .nested - 0) (omega (arith, given .pre .2)) (omega arith),
+      ),
     )
 
 returns : tie.Need-returns
 returns c =
-    let given = c .before .before .before .before .before in
-    let from = ap (λ t. 2 * t) (c .before .before .capability .ensures) in
-    let to = ap (λ t. 2 * t) (c .before .capability2 .ensures ∙ ap (capability (given .args .p)) (add-one (given .args .r))) in
-    λ lines. extended (given .args .p) (given .args .pending) (omega (arith, given .pre .0 .valid .subwords)) _ lines (given .args .r) _ _
+    let at-capability = c .before .before in
+    let given = at-capability .before .before .before in
+    let from = ap (λ t. 2 * t) (at-capability .capability .ensures) in
+    let to =
+    ap (λ t. 2 * t) (c .before .capability2 .ensures ∙ ap (capability (given .args .p)) (add-one (given .args .r))) in
+    λ lines. extended (given .args .p) (given .args .pending)
+    (omega (arith, given .pre .0 .valid .subwords)) _ lines (given .args .r) _ _
     (λ g seen. c .extend .ensures g seen ∙ ap₂ (λ a b. extend (given .args .p) a b g .row) from to)
 
 pub round-spec : {M : Type 1} → statement M

@@ -39,7 +39,11 @@ step-requires : tie.Need-step-requires Inv-loop μ-loop
 step-requires c κs = search needs
 
 loop-less : tie.Need-loop-less Inv-loop μ-loop
-loop-less c = c .step .ensures (sym (c .before .before .before .before .before .is-over .ensures) ∙ unless _ (c .before .before .before .before .if1 .taken))
+loop-less c =
+    let at-if1 = c .before .before .before .before in
+    let at-is-over = at-if1 .before in
+    c .step .ensures (sym (at-is-over .is-over .ensures)
+    ∙ unless _ (at-if1 .if1 .taken))
 
 loop-again : tie.Need-loop-again Inv-loop μ-loop
 loop-again c = search needs

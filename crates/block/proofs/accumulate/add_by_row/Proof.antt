@@ -18,10 +18,14 @@ product-row-requires : tie.Need-product-row-requires
 product-row-requires c κs = search needs
 
 mul-a : tie.Need-mul-a
-mul-a c = let given = c .before .before .before .before in record { fits = omega (arith, inside _ _ (given .args .i) (given .pre .0) (given .pre .1)) }
+mul-a c =
+    let given = c .before .before .before .before in
+    record { fits = omega (arith, inside _ _ (given .args .i) (given .pre .0) (given .pre .1)) }
 
 add-e : tie.Need-add-e
-add-e c = let given = c .before .before .before .before in record { fits = omega (arith, inside _ _ (given .args .i) (given .pre .0) (given .pre .1)) }
+add-e c =
+    let given = c .before .before .before .before in
+    record { fits = omega (arith, inside _ _ (given .args .i) (given .pre .0) (given .pre .1)) }
 
 slice-aggregate-add-multiple : tie.Need-slice-aggregate-add-multiple
 slice-aggregate-add-multiple c = search needs
@@ -34,7 +38,8 @@ part-add-multiple-start c = search needs
 
 part-add-multiple-end : tie.Need-part-add-multiple-end
 part-add-multiple-end c =
-    let given = c .before .before .before .before .before in
+    let at-product-row = c .before in
+    let given = at-product-row .before .before .before .before in
     inside _ _ (given .args .i) (given .pre .0) (given .pre .1) .0
 
 slice-relend-prefix-add-multiple : tie.Need-slice-relend-prefix-add-multiple
@@ -42,18 +47,21 @@ slice-relend-prefix-add-multiple c = search needs
 
 slice-aggregate-add-multiple-2 : tie.Need-slice-aggregate-add-multiple-2
 slice-aggregate-add-multiple-2 c =
-    let given = c .before .before .before .before .before .before .before in
+    let at-product-row = c .before .before .before in
+    let given = at-product-row .before .before .before .before in
     sym (length-take-le (given .args .p .length) (given .args .word .now) (given .pre .2))
 
 add-multiple-requires : tie.Need-add-multiple-requires
 add-multiple-requires c κs =
-    let given = c .before .before .before .before .before .before .before in
+    let at-product-row = c .before .before .before in
+    let given = at-product-row .before .before .before .before in
     let n = given .args .p .length in
     let a = given .args .i * n in
     let b = given .args .block .now in
     let w = given .args .word .now in (
-      row-products _ _ (search needs) (c .before .before .before .product-row .ensures),
-      part-length n (given .args .i) _ b (add-sub-cancel-left a n) (inside _ _ (given .args .i) (given .pre .0) (given .pre .1) .0)
+      row-products _ _ (search needs) (at-product-row .product-row .ensures),
+      part-length n (given .args .i) _ b (add-sub-cancel-left a n)
+          (inside _ _ (given .args .i) (given .pre .0) (given .pre .1) .0)
           ∙ sym (length-take-le n w (given .pre .2)),
     )
 
@@ -62,8 +70,9 @@ same-length c = search needs
 
 returns : tie.Need-returns
 returns c =
-    let given = c .before .before .before .before .before .before .before .before .before .before in
-    let row = c .before .before .before .before .before .before in
+    let at-add-multiple = c .before .before in
+    let row = at-add-multiple .before .before .before .before in
+    let given = row .before .before .before .before in
     let n = given .args .p .length in
     add-part n (given .args .i) _ (given .args .block .now) (given .args .word .now) _ _ _
     (factor-products _ _ (row .product-row .ensures))
@@ -71,7 +80,7 @@ returns c =
     (inside _ _ (given .args .i) (given .pre .0) (given .pre .1) .0)
     (given .pre .2)
     (omega (arith, c .before .word .given, length-take-le n (given .args .word .now) (given .pre .2)))
-    (c .before .before .add-multiple .ensures)
+    (at-add-multiple .add-multiple .ensures)
 
 pub add-by-row-spec : {M : Type 1} → statement M
 add-by-row-spec =

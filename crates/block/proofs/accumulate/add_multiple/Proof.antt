@@ -18,12 +18,14 @@ same-length c = search needs
 
 returns : tie.Need-returns
 returns c =
-    let given = c .before .before .before .before .before .before .before .before .args in
+    let at-if1 = c .before .before .before .before in
+    let given = at-if1 .before .before .before .before .args in
     let n = given .p .length in
     let e : given .c .0 ≡ 1 = omega arith in
     let part = cut n (subword n (bytes (given .block .now)) (given .i)) in
     c .before .before .add-subword .ensures
-    ∙ ap (λ (f : Series). bytes (given .word .now) ⊞ f) (sym (ap (λ (t : F). K t ⊠ part) (val-of (given .c) ∙ ap of e ∙ of-one) ∙ one-⊠ part))
+    ∙ ap (λ (f : Series). bytes (given .word .now) ⊞ f)
+    (sym (ap (λ (t : F). K t ⊠ part) (val-of (given .c) ∙ ap of e ∙ of-one) ∙ one-⊠ part))
 
 add-by-row-requires : tie.Need-add-by-row-requires
 add-by-row-requires c κs = search needs

@@ -18,7 +18,8 @@ mul-result : tie.Need-mul-result
 mul-result c = search needs
 
 sub-result : tie.Need-sub-result
-sub-result c = omega (arith, checks-least (c .before .before .args .p) (c .before .before .pre) 0, c .before .checks .ensures)
+sub-result c =
+    omega (arith, checks-least (c .before .before .args .p) (c .before .before .pre) 0, c .before .checks .ensures)
 
 returns : tie.Need-returns
 returns c = omega (arith, c .before .checks .ensures)

@@ -34,9 +34,11 @@ is-zero-requires c κs = search needs
 
 returns : tie.Need-returns Inv-loop μ-loop
 returns c =
-    let now = c .before .before .before .before .loop in
-    let rows = c .before .before .before .before .before .args .t1 in
-    sym (holds-no (zeros? rows) (λ z. zero-not _ (sym (c .before .is-zero .ensures) ∙ not-true _ (c .if1 .taken)) (z (now .i) (omega arith))))
+    let at-loop = c .before .before .before .before in
+    let now = at-loop .loop in
+    let rows = at-loop .before .args .t1 in
+    sym (holds-no (zeros? rows)
+    (λ z. zero-not _ (sym (c .before .is-zero .ensures) ∙ not-true _ (c .if1 .taken)) (z (now .i) (omega arith))))
 
 add-i : tie.Need-add-i Inv-loop μ-loop
 add-i c = search needs

@@ -24,64 +24,105 @@ mul-first : tie.Need-mul-first
 mul-first c = search needs
 
 word-requires : tie.Need-word-requires
-word-requires c κs = c .before .before .before .before .before .before .pre .0
+word-requires c κs =
+    let at-if1 = c .before .before in
+    let given = at-if1 .before .before .before .before in
+    given .pre .0
 
 word-requires-2 : tie.Need-word-requires-2
-word-requires-2 c κs = c .before .before .before .before .before .before .before .pre .0
+word-requires-2 c κs =
+    let at-if1 = c .before .before .before in
+    let given = at-if1 .before .before .before .before in
+    given .pre .0
 
 word-requires-3 : tie.Need-word-requires-3
-word-requires-3 c κs = c .before .before .before .before .before .before .before .before .pre .0
+word-requires-3 c κs =
+    let at-if1 = c .before .before .before .before in
+    let given = at-if1 .before .before .before .before in
+    given .pre .0
 
 further-requires : tie.Need-further-requires
-further-requires c κs = c .before .before .before .before .before .before .before .before .before .pre .0 .valid
+further-requires c κs =
+    let at-word2 = c .before in
+    let at-if1 = at-word2 .before .before .before .before in
+    let given = at-if1 .before .before .before .before in
+    given .pre .0 .valid
 
 array-share-prefix-a : tie.Need-array-share-prefix-a
 array-share-prefix-a c = search needs
 
 slice-aggregate-residues : tie.Need-slice-aggregate-residues
 slice-aggregate-residues c =
-    let ok = c .before .before .before .before .before .before .before .before .before .before .before .pre .0 .valid in
-    let long = c .before .before .before .before .word .ensures .0 in
-    sym (length-take-le (c .before .before .before .before .before .before .before .before .before .before .before .args .p .length) (c .before .before .before .before .word .result) (omega (arith, long, ok .length)))
+    let at-word = c .before .before .before .before in
+    let at-if1 = at-word .before .before .before in
+    let given = at-if1 .before .before .before .before in
+    let ok = given .pre .0 .valid in
+    let long = at-word .word .ensures .0 in
+    sym (length-take-le
+    (given .args .p .length)
+    (at-word .word .result) (omega (arith, long, ok .length)))
 
 array-share-prefix-b : tie.Need-array-share-prefix-b
 array-share-prefix-b c = search needs
 
 slice-aggregate-residues-2 : tie.Need-slice-aggregate-residues-2
 slice-aggregate-residues-2 c =
-    let ok = c .before .before .before .before .before .before .before .before .before .before .before .before .pre .0 .valid in
-    let long = c .before .before .before .before .word2 .ensures .0 in
-    sym (length-take-le (c .before .before .before .before .before .before .before .before .before .before .before .before .args .p .length) (c .before .before .before .before .word2 .result) (omega (arith, long, ok .length)))
+    let at-word2 = c .before .before .before .before in
+    let at-if1 = at-word2 .before .before .before .before in
+    let given = at-if1 .before .before .before .before in
+    let ok =
+    given .pre .0 .valid in
+    let long = at-word2 .word2 .ensures .0 in
+    sym (length-take-le
+    (given .args .p .length)
+    (at-word2 .word2 .result) (omega (arith, long, ok .length)))
 
 array-share-prefix-c : tie.Need-array-share-prefix-c
 array-share-prefix-c c = search needs
 
 slice-aggregate-residues-3 : tie.Need-slice-aggregate-residues-3
 slice-aggregate-residues-3 c =
-    let ok = c .before .before .before .before .before .before .before .before .before .before .before .before .before .pre .0 .valid in
-    let long = c .before .before .before .before .word3 .ensures .0 in
-    sym (length-take-le (c .before .before .before .before .before .before .before .before .before .before .before .before .before .args .p .length) (c .before .before .before .before .word3 .result) (omega (arith, long, ok .length)))
+    let at-word3 = c .before .before .before .before in
+    let at-word2 = at-word3 .before in
+    let at-if1 = at-word2 .before .before .before .before in
+    let given = at-if1 .before .before .before .before in
+    let ok = given .pre .0 .valid in
+    let long = at-word3 .word3 .ensures .0 in
+    sym (length-take-le (given .args .p .length) (at-word3 .word3 .result) (omega (arith, long, ok .length)))
 
 array-share-prefix-d : tie.Need-array-share-prefix-d
 array-share-prefix-d c = search needs
 
 slice-aggregate-residues-4 : tie.Need-slice-aggregate-residues-4
-slice-aggregate-residues-4 c = sym (length-take-le (c .before .before .before .before .before .before .before .before .before .before .before .before .before .before .args .p .length) _ (c .before .before .before .before .before .before .before .before .before .before .before .before .before .before .pre .0 .valid .length .1))
+slice-aggregate-residues-4 c =
+    let at-further = c .before .before .before .before in
+    let at-word = at-further .before .before .before in
+    let at-if1 = at-word .before .before .before in
+    let given = at-if1 .before .before .before .before in
+    sym (length-take-le (given .args .p .length) _ (given .pre .0 .valid .length .1))
 
 residues-requires : tie.Need-residues-requires
 residues-requires c κs =
-    let given = c .before .before .before .before .before .before .before .before .before .before .before .before .before .before in
+    let at-further = c .before .before .before .before in
+    let at-word3 = at-further .before in
+    let at-word2 = at-word3 .before in
+    let at-word = at-word2 .before in
+    let at-if1 = at-word .before .before .before in
+    let given = at-if1 .before .before .before .before in
     let p = given .args .p in
     let n = p .length in
     let ok = given .pre .0 .valid in
-    let k = c .before .before .before .before .further .ensures in
+    let k = at-further .further .ensures in
     let room = ok .length .1 in
-    let long1 = c .before .before .before .before .before .before .before .word .ensures .0 in
-    let long2 = c .before .before .before .before .before .before .word2 .ensures .0 in
-    let long3 = c .before .before .before .before .before .word3 .ensures .0 in
-    let size1 = length-take-le n (c .before .before .before .before .before .before .before .word .result) (omega (arith, long1, room)) in
-    let size2 = length-take-le n (c .before .before .before .before .before .before .word2 .result) (omega (arith, long2, room)) in
-    let size3 = length-take-le n (c .before .before .before .before .before .word3 .result) (omega (arith, long3, room)) in
+    let long1 = at-word .word .ensures .0 in
+    let long2 = at-word2 .word2 .ensures .0 in
+    let long3 = at-word3 .word3 .ensures .0 in
+    let size1 = length-take-le n (at-word .word .result)
+    (omega (arith, long1, room)) in
+    let size2 =
+    length-take-le n (at-word2 .word2 .result) (omega (arith, long2, room)) in
+    let size3 =
+    length-take-le n (at-word3 .word3 .result) (omega (arith, long3, room)) in
     let size4 = length-take-le n (replicate {A = ℕ} 255 0) room in (
       roots-for (sym k) (given .pre .1 (omega arith)),
       omega (arith, checks-least p ok 0, checks-most p ok 0, k),
@@ -102,19 +143,37 @@ array-set-from-out-3 c = search needs
 
 returns-2 : tie.Need-returns-2
 returns-2 c =
-    let given = c .before .before .before .before .before .before .before .before .before .before .before .before .before .before .before .before .before .before in
+    let at-residues = c .before .before .before in
+    let at-a = at-residues .before .before .before .before in
+    let at-further = at-a .before in
+    let at-word3 = at-further .before in
+    let at-word2 = at-word3 .before in
+    let at-word = at-word2 .before in
+    let at-if1 = at-word .before .before .before in
+    let given = at-if1 .before .before .before .before in
     let p = given .args .p in
     let s = bytes (given .args .block .now) in
     let ok = given .pre .0 .valid in
-    let k = c .before .before .before .before .before .before .before .before .further .ensures in
-    let r = c .before .before .before .residues in
-    let long1 = c .before .before .before .before .before .before .before .before .before .before .before .word .ensures .0 in
-    let long2 = c .before .before .before .before .before .before .before .before .before .before .word2 .ensures .0 in
-    let long3 = c .before .before .before .before .before .before .before .before .before .word3 .ensures .0 in
+    let k = at-further .further .ensures in
+    let r = at-residues .residues in
+    let long1 =
+    at-word .word .ensures .0 in
+    let long2 = at-word2 .word2 .ensures .0 in
+    let long3 = at-word3 .word3 .ensures .0 in
     three-rows p s _ _ _ ok
-    (residual-left p s 0 _ (c .before .before .before .before .before .before .before .before .before .before .before .word .result) _ (omega (arith, long1, ok .length)) k (c .before .before .before .before .before .before .before .before .before .before .before .word .ensures .1) (r .ensures .0))
-    (residual-left p s 1 _ (c .before .before .before .before .before .before .before .before .before .before .word2 .result) _ (omega (arith, long2, ok .length)) k (c .before .before .before .before .before .before .before .before .before .before .word2 .ensures .1) (r .ensures .1))
-    (residual-left p s 2 _ (c .before .before .before .before .before .before .before .before .before .word3 .result) _ (omega (arith, long3, ok .length)) k (c .before .before .before .before .before .before .before .before .before .word3 .ensures .1) (r .ensures .2))
+    (residual-left p s 0 _
+    (at-word .word .result) _
+    (omega (arith, long1, ok .length)) k
+    (at-word .word .ensures .1)
+    (r .ensures .0))
+    (residual-left p s 1 _
+    (at-word2 .word2 .result) _
+    (omega (arith, long2, ok .length)) k
+    (at-word2 .word2 .ensures .1)
+    (r .ensures .1))
+    (residual-left p s 2 _ (at-word3 .word3 .result) _
+    (omega (arith, long3, ok .length)) k
+    (at-word3 .word3 .ensures .1) (r .ensures .2))
 
 pub remainders-spec : {M : Type 1} → statement M
 remainders-spec =

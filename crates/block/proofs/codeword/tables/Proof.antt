@@ -25,13 +25,21 @@ returns : tie.Need-returns
 returns c = record { subwords = c .before .before .before .before .table .ensures; further = λ h. absurd (omega arith) }
 
 further-requires : tie.Need-further-requires
-further-requires c κs = c .before .before .before .before .before .before .before .before .before .pre .0
+further-requires c κs =
+    let at-table = c .before .before .before .before in
+    let at-slice-known = at-table .before .before .before .before in
+    let given = at-slice-known .before in
+    given .pre .0
 
 table-requires-2 : tie.Need-table-requires-2
 table-requires-2 c κs =
-    let given = c .before .before .before .before .before .before .before .before .before .before .before in
-    let p = given .args .p in
-    (omega (arith, checks-least p (given .pre .0) 0, checks-most p (given .pre .0) 0, c .before .further .ensures), given .pre .2)
+    let at-slice-known3 = c .before .before .before .before in
+    let at-struct-known = at-slice-known3 .before .before .before .before in
+    let given = at-struct-known .before .before .before in
+    let p = given .args .p in (
+      omega (arith, checks-least p (given .pre .0) 0, checks-most p (given .pre .0) 0, c .before .further .ensures),
+      given .pre .2,
+    )
 
 same-length-2 : tie.Need-same-length-2
 same-length-2 c = search needs
@@ -40,10 +48,14 @@ same-length-3 : tie.Need-same-length-3
 same-length-3 c = search needs
 
 returns-2 : tie.Need-returns-2
-returns-2 c = record {
-  subwords = c .before .before .before .before .before .before .before .before .before .table .ensures;
-  further = λ _. roots-for (c .before .before .before .before .further .ensures) (c .before .before .table2 .ensures);
-}
+returns-2 c =
+    let at-further = c .before .before .before .before in
+    let at-if1 = at-further .before in
+    let at-table = at-if1 .before .before .before .before in
+    record {
+      subwords = at-table .table .ensures;
+      further = λ _. roots-for (at-further .further .ensures) (c .before .before .table2 .ensures);
+    }
 
 pub tables-spec : {M : Type 1} → statement M
 tables-spec =

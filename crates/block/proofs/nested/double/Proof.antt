@@ -13,7 +13,8 @@ use Rattle.block.proofs.nested.double.Statement.{statement}
 use Rattle.block.proofs.nested.double.Tie as tie
 
 abbrev Inv-loop : tie.InvT-loop
-Inv-loop word₀ q₀ word q = (q ≤ length word₀) × (length word ≡ length word₀) × (bytes word ≡ bytes word₀ ⊞ K (α ⊕ 𝟏) ⊠ cut q (bytes word₀))
+Inv-loop word₀ q₀ word q = (q ≤ length word₀) × (length word ≡ length word₀)
+    × (bytes word ≡ bytes word₀ ⊞ K (α ⊕ 𝟏) ⊠ cut q (bytes word₀))
 
 abbrev μ-loop : tie.MeasureT-loop
 μ-loop word₀ q₀ word q = length word₀ - q

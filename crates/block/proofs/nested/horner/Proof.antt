@@ -31,27 +31,36 @@ loop-less c = search needs
 
 loop-again : tie.Need-loop-again Inv-loop μ-loop
 loop-again c =
-    let now = c .before .before .before .before .before .loop in (
+    let at-double = c .before .before in
+    let now = at-double .before .before .before .loop in (
       omega arith,
       omega (arith, c .before .word .given, now .inv .1),
-      power-more (now .d) _ _ _ (now .inv .2) (c .before .before .double .ensures),
+      power-more (now .d) _ _ _ (now .inv .2) (at-double .double .ensures),
     )
 
 add-requires : tie.Need-add-requires Inv-loop μ-loop
 add-requires c κs =
-    let given = c .before .before .before .before .before in
-    omega (arith, given .pre, c .before .before .loop .inv .1)
+    let at-loop = c .before .before in
+    let given = at-loop .before .before .before in
+    omega (arith, given .pre, at-loop .loop .inv .1)
 
 same-length : tie.Need-same-length Inv-loop μ-loop
-same-length c = omega (arith, c .before .word2 .given, c .before .before .before .before .before .loop .inv .1)
+same-length c =
+    let at-loop-test = c .before .before .before .before in
+    let at-loop = at-loop-test .before in
+    omega (arith, c .before .word2 .given, at-loop .loop .inv .1)
 
 returns : tie.Need-returns Inv-loop μ-loop
 returns c =
-    let end = c .before .before .before .before .before .loop in
-    let given = c .before .before .before .before .before .before .before .before in
-    let all : end .d ≡ given .args .l = omega (arith, end .inv .0, c .before .before .before .before .loop-test .left) in
+    let at-loop-test = c .before .before .before .before in
+    let at-loop = at-loop-test .before in
+    let given = at-loop .before .before .before in
+    let end = at-loop .loop in
+    let all : end .d ≡ given .args .l =
+    omega (arith, end .inv .0, at-loop-test .loop-test .left) in
     c .before .before .add .ensures
-    ∙ ap (λ (f : Series). f ⊞ bytes (given .args .subword .now)) (end .inv .2 ∙ ap (λ d. K (pow α d) ⊠ bytes (given .args .word .now)) all)
+    ∙ ap (λ (f : Series). f ⊞ bytes (given .args .subword .now))
+    (end .inv .2 ∙ ap (λ d. K (pow α d) ⊠ bytes (given .args .word .now)) all)
 
 pub horner-spec : {M : Type 1} → statement M
 horner-spec =

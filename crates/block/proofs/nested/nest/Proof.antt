@@ -13,7 +13,8 @@ use Rattle.block.proofs.nested.nest.Statement.{statement}
 use Rattle.block.proofs.nested.nest.Tie as tie
 
 abbrev Inv-loop : tie.InvT-loop
-Inv-loop block l word₀ n i₀ word i = (i ≤ i₀) × (length word ≡ length word₀) × (bytes word ≡ cut n (tails n i₀ (bytes block) l i))
+Inv-loop block l word₀ n i₀ word i = (i ≤ i₀) × (length word ≡ length word₀)
+    × (bytes word ≡ cut n (tails n i₀ (bytes block) l i))
 
 abbrev μ-loop : tie.MeasureT-loop
 μ-loop block l word₀ n i₀ word i = i
@@ -34,15 +35,21 @@ sub-i c = search needs
 
 mul-a : tie.Need-mul-a Inv-loop μ-loop
 mul-a c =
-    let given = c .before .before .before .before .before .before in
+    let at-slice-known = c .before .before .before .before in
+    let given = at-slice-known .before .before in
     let now = c .before .loop in
-    record { fits = omega (arith, inside _ _ (now .i - 1) (given .pre .0) (omega (arith, now .inv .0, c .loop-test .taken))) }
+    record {
+      fits = omega (arith, inside _ _ (now .i - 1) (given .pre .0) (omega (arith, now .inv .0, c .loop-test .taken)));
+    }
 
 add-e : tie.Need-add-e Inv-loop μ-loop
 add-e c =
-    let given = c .before .before .before .before .before .before in
+    let at-slice-known = c .before .before .before .before in
+    let given = at-slice-known .before .before in
     let now = c .before .loop in
-    record { fits = omega (arith, inside _ _ (now .i - 1) (given .pre .0) (omega (arith, now .inv .0, c .loop-test .taken))) }
+    record {
+      fits = omega (arith, inside _ _ (now .i - 1) (given .pre .0) (omega (arith, now .inv .0, c .loop-test .taken)));
+    }
 
 sub-horner : tie.Need-sub-horner Inv-loop μ-loop
 sub-horner c = search needs
@@ -52,16 +59,20 @@ part-horner-start c = search needs
 
 part-horner-end : tie.Need-part-horner-end Inv-loop μ-loop
 part-horner-end c =
-    let given = c .before .before .before .before .before .before in
+    let at-slice-known = c .before .before .before .before in
+    let given = at-slice-known .before .before in
     let now = c .before .loop in
     inside _ _ (now .i - 1) (given .pre .0) (omega (arith, now .inv .0, c .loop-test .taken)) .0
 
 horner-requires : tie.Need-horner-requires Inv-loop μ-loop
 horner-requires c κs =
-    let given = c .before .before .before .before .before .before .before .before in
-    let now = c .before .before .before .loop in
+    let at-loop = c .before .before .before in
+    let at-shared-slice-known = at-loop .before .before .before .before in
+    let given = at-shared-slice-known .before in
+    let now = at-loop .loop in
     let n = given .args .p .length in
-    let here = inside _ _ (now .i - 1) (given .pre .0) (omega (arith, now .inv .0, c .before .before .loop-test .taken)) .0 in
+    let here =
+    inside _ _ (now .i - 1) (given .pre .0) (omega (arith, now .inv .0, c .before .before .loop-test .taken)) .0 in
     let part = part-length n (now .i - 1) _ (given .args .block .now) (add-sub-cancel-left ((now .i - 1) * n) n) here in
     part ∙ sym (now .inv .1 ∙ given .pre .1)
 
@@ -70,17 +81,23 @@ loop-less c = search needs
 
 loop-again : tie.Need-loop-again Inv-loop μ-loop
 loop-again c =
-    let given = c .before .before .before .before .before .before .before .before .before .before .before in
-    let now = c .before .before .before .before .before .before .loop in
-    let taken = c .before .before .before .before .before .loop-test .taken in
+    let at-horner = c .before .before in
+    let at-loop-test = at-horner .before .before .before in
+    let at-loop = at-loop-test .before in
+    let at-shared-slice-known = at-loop .before .before .before .before in
+    let given = at-shared-slice-known .before in
+    let now = at-loop .loop in
+    let taken = at-loop-test .loop-test .taken in
     let p = given .args .p in
     let n = p .length in
     let i = now .i - 1 in
     let here = inside _ _ i (given .pre .0) (omega (arith, now .inv .0, taken)) .0 in (
       omega (arith, now .inv .0),
       omega (arith, c .before .word .given, now .inv .1),
-      horner-more n (p .subwords) (bytes (given .args .block .now)) (given .args .l) i (now .i) _ _ _ (omega (arith, taken)) (omega (arith, now .inv .0, taken))
-          (now .inv .2) (part-is n i _ (given .args .block .now) (add-sub-cancel-left (i * n) n) here) (c .before .before .horner .ensures),
+      horner-more n (p .subwords) (bytes (given .args .block .now)) (given .args .l) i (now .i) _ _ _
+          (omega (arith, taken)) (omega (arith, now .inv .0, taken))
+          (now .inv .2) (part-is n i _ (given .args .block .now) (add-sub-cancel-left (i * n) n) here)
+          (at-horner .horner .ensures),
     )
 
 same-length : tie.Need-same-length Inv-loop μ-loop
@@ -88,7 +105,8 @@ same-length c = c .before .loop .inv .1
 
 returns : tie.Need-returns Inv-loop μ-loop
 returns c =
-    let given = c .before .before .before .before .before .before in
+    let at-slice-known = c .before .before .before .before in
+    let given = at-slice-known .before .before in
     let end = c .before .loop in
     let p = given .args .p in
     let s = bytes (given .args .block .now) in

@@ -21,14 +21,19 @@ slice-aggregate-nest c =
 nest-requires : tie.Need-nest-requires
 nest-requires c κs =
     let given = c .before .before .before in
-    let n = given .args .p .length in
-    (given .pre .0, length-take-le n _ (given .pre .0 .valid .length .1), prefix-zeros n 255 (given .pre .0 .valid .length .1))
+    let n = given .args .p .length in (
+      given .pre .0,
+      length-take-le n _ (given .pre .0 .valid .length .1),
+      prefix-zeros n 255 (given .pre .0 .valid .length .1),
+    )
 
 returns : tie.Need-returns
 returns c =
-    let given = c .before .before .before .before .before in
+    let at-nest = c .before in
+    let given = at-nest .before .before .before .before in
     let n = given .args .p .length in
-    front-zeros n 255 _ _ (c .word2 .given ∙ length-take-le n _ (given .pre .0 .valid .length .1)) (c .before .nest .ensures)
+    front-zeros n 255 _ _ (c .word2 .given ∙ length-take-le n _ (given .pre .0 .valid .length .1))
+    (at-nest .nest .ensures)
 
 pub nested-word-spec : {M : Type 1} → statement M
 nested-word-spec =

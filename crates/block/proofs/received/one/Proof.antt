@@ -15,10 +15,14 @@ cast-n : tie.Need-cast-n
 cast-n c = search needs
 
 mul-a : tie.Need-mul-a
-mul-a c = let given = c .before .before .before in record { fits = omega (arith, inside _ _ (given .args .i) (given .pre .0) (given .pre .2)) }
+mul-a c =
+    let given = c .before .before .before in
+    record { fits = omega (arith, inside _ _ (given .args .i) (given .pre .0) (given .pre .2)) }
 
 add-e : tie.Need-add-e
-add-e c = let given = c .before .before .before in record { fits = omega (arith, inside _ _ (given .args .i) (given .pre .0) (given .pre .2)) }
+add-e c =
+    let given = c .before .before .before in
+    record { fits = omega (arith, inside _ _ (given .args .i) (given .pre .0) (given .pre .2)) }
 
 cast-syndromes : tie.Need-cast-syndromes
 cast-syndromes c = search needs
@@ -33,32 +37,44 @@ part-syndromes-start : tie.Need-part-syndromes-start
 part-syndromes-start c = search needs
 
 part-syndromes-end : tie.Need-part-syndromes-end
-part-syndromes-end c = let given = c .before .before .before .before in inside _ _ (given .args .i) (given .pre .0) (given .pre .2) .0
+part-syndromes-end c =
+    let given = c .before .before .before .before in
+    inside _ _ (given .args .i) (given .pre .0) (given .pre .2) .0
 
 syndromes-requires : tie.Need-syndromes-requires
 syndromes-requires c κs =
-    let given = c .before .before .before .before .before in
+    let at-shared-slice-known = c .before .before .before .before in
+    let given = at-shared-slice-known .before in
     let p = given .args .p in
     let i = given .args .i in
     let ok = given .pre .0 .valid in
     let least = checks-least p ok 0 in
-    let part = part-length (p .length) i _ (given .args .block .now) (add-sub-cancel-left (i * p .length) (p .length)) (inside _ _ i (given .pre .0) (given .pre .2) .0) in
+    let part = part-length (p .length) i _ (given .args .block .now) (add-sub-cancel-left (i * p .length) (p .length))
+    (inside _ _ i (given .pre .0) (given .pre .2) .0) in
     (given .pre .1, omega (arith, least, checks-most p ok 0), omega (arith, part, least, checks-below p ok 0))
 
 mul-out : tie.Need-mul-out
-mul-out c = let given = c .before .before .before .before .before .before in record { fits = omega (arith, given .pre .0 .valid .subwords, given .pre .2) }
+mul-out c =
+    let at-shared-slice-known2 = c .before .before .before .before in
+    let given = at-shared-slice-known2 .before .before in
+    record { fits = omega (arith, given .pre .0 .valid .subwords, given .pre .2) }
 
 array-set-from-out : tie.Need-array-set-from-out
-array-set-from-out c = let given = c .before .before .before .before .before .before in omega (arith, given .pre .0 .valid .subwords, given .pre .2)
+array-set-from-out c =
+    let at-shared-slice-known2 = c .before .before .before .before in
+    let given = at-shared-slice-known2 .before .before in
+    omega (arith, given .pre .0 .valid .subwords, given .pre .2)
 
 returns : tie.Need-returns
 returns c =
-    let given = c .before .before .before .before .before .before in
+    let at-shared-slice-known2 = c .before .before .before .before in
+    let given = at-shared-slice-known2 .before .before in
     let p = given .args .p in
     let i = given .args .i in
     λ f. more-rows p _ i (given .args .rows) _ (omega (arith, given .pre .0 .valid .subwords, given .pre .2))
     (c .syndromes .ensures
-    ∙ ap (cut (2 * p .t0)) (part-syndrome (p .length) i _ (given .args .block .now) (add-sub-cancel-left (i * p .length) (p .length)) (inside _ _ i (given .pre .0) (given .pre .2) .0)))
+    ∙ ap (cut (2 * p .t0)) (part-syndrome (p .length) i _ (given .args .block .now)
+    (add-sub-cancel-left (i * p .length) (p .length)) (inside _ _ i (given .pre .0) (given .pre .2) .0)))
     f
 
 pub one-spec : {M : Type 1} → statement M

@@ -23,7 +23,8 @@ returns : tie.Need-returns
 returns c =
     let given = c .before .before in
     let long : length (given .args .t1) ≡ 48 = search needs in
-    λ n w is. c .at-roots .ensures ∙ residue-syndromes n (given .args .k) w (omega (arith, given .pre)) (given .args .t1) (omega (arith, long, given .pre)) is
+    λ n w is. c .at-roots .ensures ∙ residue-syndromes n (given .args .k) w (omega (arith, given .pre))
+    (given .args .t1) (omega (arith, long, given .pre)) is
 
 pub row-spec : {M : Type 1} → statement M
 row-spec = tie.close (tie.spec array-share-prefix-r slice-aggregate-at-roots at-roots-requires returns)

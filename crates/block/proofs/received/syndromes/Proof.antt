@@ -32,7 +32,10 @@ add-loop : tie.Need-add-loop Inv-loop μ-loop Inv-loop2 μ-loop2
 add-loop c = search needs
 
 four-requires : tie.Need-four-requires Inv-loop μ-loop Inv-loop2 μ-loop2
-four-requires c κs = (c .before .before .before .before .before .pre .0, c .before .before .before .before .before .pre .1, omega arith)
+four-requires c κs =
+    let at-loop = c .before in
+    let given = at-loop .before .before .before .before in
+    (given .pre .0, given .pre .1, omega arith)
 
 add-i : tie.Need-add-i Inv-loop μ-loop Inv-loop2 μ-loop2
 add-i c = search needs
@@ -47,7 +50,13 @@ loop2-holds : tie.Need-loop2-holds Inv-loop μ-loop Inv-loop2 μ-loop2
 loop2-holds c = c .before .loop .inv
 
 one-requires : tie.Need-one-requires Inv-loop μ-loop Inv-loop2 μ-loop2
-one-requires c κs = (c .before .before .before .before .before .before .before .pre .0, c .before .before .before .before .before .before .before .pre .1, c .loop2-test .taken)
+one-requires c κs =
+    let at-loop = c .before .before .before in
+    let given = at-loop .before .before .before .before in (
+      given .pre .0,
+      given .pre .1,
+      c .loop2-test .taken,
+    )
 
 add-i-2 : tie.Need-add-i-2 Inv-loop μ-loop Inv-loop2 μ-loop2
 add-i-2 c = search needs
@@ -60,7 +69,8 @@ loop2-again c = (omega arith, c .one .ensures (c .before .before .loop2 .inv .1)
 
 returns : tie.Need-returns Inv-loop μ-loop Inv-loop2 μ-loop2
 returns c =
-    let given = c .before .before .before .before .before .before .before in
+    let at-loop = c .before .before .before in
+    let given = at-loop .before .before .before .before in
     let end = c .before .loop2 in
     let e : end .i ≡ given .args .p .subwords = omega (arith, end .inv .0) in
     end .inv .1 .1 ∙ ap (λ i. rows i (row-of (given .args .p) (bytes (given .args .block .now)))) e

@@ -20,29 +20,40 @@ blank-requires c κs = search needs
 array-borrow-prefix-out : tie.Need-array-borrow-prefix-out
 array-borrow-prefix-out c =
     let made = c .before .before .before .before in
-    let fits = made .before .before .before .before .before .pre .0 in
+    let fits =
+    let at-prepare = made .before in
+    at-prepare .before .before .before .before .pre .0 in
     omega (arith, made .blank .ensures, inside _ _ 0 fits (fits .valid .subwords .0))
 
 slice-aggregate-read-block : tie.Need-slice-aggregate-read-block
 slice-aggregate-read-block c =
-    let made = c .before .before .before .before .before in
-    let fits = made .before .before .before .before .before .pre .0 in
+    let made =
+    let at-read-block-arg = c .before .before .before .before in
+    at-read-block-arg .before in
+    let fits =
+    let at-prepare = made .before in
+    at-prepare .before .before .before .before .pre .0 in
     sym (length-take-le _ _ (omega (arith, made .blank .ensures, inside _ _ 0 fits (fits .valid .subwords .0))))
 
 read-block-requires : tie.Need-read-block-requires
 read-block-requires c κs =
-    let made = c .before .before .before .before .before .before in
+    let made =
+    let at-read-block-arg2 = c .before .before .before .before in
+    at-read-block-arg2 .before .before in
     let prepared = made .before in
-    let fits = prepared .before .before .before .before .pre .0 in
-    let n = length (prepared .before .before .before .before .args .block .now) in
+    let given = prepared .before .before .before .before in
+    let fits = given .pre .0 in
+    let n = length (given .args .block .now) in
     let long : n ≤ length (made .blank .result) =
     omega (arith, made .blank .ensures, inside _ _ 0 fits (fits .valid .subwords .0)) in
     (fits, length-take-le _ _ long, prepared .prepare .ensures)
 
 returns : tie.Need-returns
 returns c =
-    let made = c .before .before .before .before .before .before .before .before in
-    (c .before .read-block .ensures, made .before .prepare .ensures)
+    let at-read-block-arg4 = c .before .before .before .before in
+    let made = at-read-block-arg4 .before .before .before .before in
+    let at-prepare = made .before in
+    (c .before .read-block .ensures, at-prepare .prepare .ensures)
 
 pub print-spec : {M : Type 1} → statement M
 print-spec =

@@ -20,10 +20,14 @@ same-length c = search needs
 returns : tie.Need-returns
 unfolding block-line
 returns c =
-    let given = c .before .before .before .before .before .before .before .before .before .before .before in
-    let gives = c .before .before .before .before .before .read .ensures in
+    let at-out = c .before .before .before .before in
+    let at-read = at-out .before in
+    let at-shared-slice-known2 = at-read .before .before .before .before in
+    let given = at-shared-slice-known2 .before .before in
+    let gives = at-read .read .ensures in
     let result = concluded (given .args .p) (decode (given .args .p) (bytes (given .args .block .now))) in
-    printed-as (told-line (given .args .i) result _ _ _ (gives .answer) (gives .report .last) (gives .report .changed)) (c .told .ensures)
+    printed-as (told-line (given .args .i) result _ _ _ (gives .answer) (gives .report .last) (gives .report .changed))
+    (c .told .ensures)
 
 pub read-block-spec : {M : Type 1} → statement M
 read-block-spec = tie.close (tie.spec read-requires told-requires same-length returns)

@@ -24,12 +24,15 @@ refused-requires c κs = search needs
 returns : tie.Need-returns
 returns c =
     let given = c .before .before .before .before in
-    printed-as (ap (λ a. told (given .args .i) a (given .args .last) (given .args .changed)) (sym (c .before .before .enum-told .given .1))) (c .ok .ensures)
+    printed-as (ap (λ a. told (given .args .i) a (given .args .last) (given .args .changed))
+    (sym (c .before .before .enum-told .given .1))) (c .ok .ensures)
 
 returns-2 : tie.Need-returns-2
 returns-2 c =
-    let given = c .before .before .before .before .before .before in
-    printed-as (ap (λ a. told (given .args .i) a (given .args .last) (given .args .changed)) (sym (c .before .before .before .before .a .given .1)))
+    let at-a = c .before .before .before .before in
+    let given = at-a .before .before in
+    printed-as (ap (λ a. told (given .args .i) a (given .args .last) (given .args .changed))
+    (sym (at-a .a .given .1)))
     (rw (c .before .before .number .ensures) at (c .refused .ensures))
 
 pub told-spec : {M : Type 1} → statement M

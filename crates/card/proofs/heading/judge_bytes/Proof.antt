@@ -23,10 +23,16 @@ refuse-requires : tie.Need-refuse-requires
 refuse-requires c κs = search needs
 
 returns : tie.Need-returns
-returns c = takes-as (ap profile-step (sym (c .before .p .given .1) ∙ c .before .before .before .parse .ensures)) (takes-silent _ _)
+returns c = takes-as (ap profile-step (sym (c .before .p .given .1) ∙ c .before .before .before .parse .ensures))
+    (takes-silent _ _)
 
 returns-2 : tie.Need-returns-2
-returns-2 c = takes-as (ap refusal (c .before .before .number .ensures) ∙ ap profile-step (sym (c .before .before .before .before .q .given .1) ∙ c .before .before .before .before .before .before .parse .ensures)) (c .refuse .ensures)
+returns-2 c =
+    let at-q = c .before .before .before .before in
+    let at-parse = at-q .before .before in
+    takes-as (ap refusal (c .before .before .number .ensures)
+    ∙ ap profile-step (sym (at-q .q .given .1)
+    ∙ at-parse .parse .ensures)) (c .refuse .ensures)
 
 pub judge-bytes-spec : {M : Type 1} → statement M
 judge-bytes-spec =

@@ -14,7 +14,8 @@ refuse-requires : tie.Need-refuse-requires
 refuse-requires c κs = search needs
 
 returns : tie.Need-returns
-returns c = rw (ne-eqb (c .before .before .before .before .args .n) 7 (c .before .before .before .if1 .taken)) (takes-as (ap refusal (c .before .before .number .ensures)) (c .refuse .ensures))
+returns c = rw (ne-eqb (c .before .before .before .before .args .n) 7 (c .before .before .before .if1 .taken))
+    (takes-as (ap refusal (c .before .before .number .ensures)) (c .refuse .ensures))
 
 returns-2 : tie.Need-returns-2
 returns-2 c = rw (eq-eqb (c .before .args .n) 7 (c .if1 .left)) (takes-silent _ _)

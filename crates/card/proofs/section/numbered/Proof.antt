@@ -8,7 +8,8 @@ accepted-requires : tie.Need-accepted-requires
 accepted-requires c κs = search needs
 
 returns : tie.Need-returns
-returns c = rw (lt-ltb (c .before .before .args .i) (c .before .before .args .k) (c .before .if1 .taken)) (c .accepted .ensures)
+returns c =
+    rw (lt-ltb (c .before .before .args .i) (c .before .before .args .k) (c .before .if1 .taken)) (c .accepted .ensures)
 
 returns-2 : tie.Need-returns-2
 returns-2 c = rw (le-ltb (c .before .args .i) (c .before .args .k) (c .if1 .left))

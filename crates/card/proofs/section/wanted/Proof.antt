@@ -14,8 +14,10 @@ size-requires c κs = search needs
 
 returns : tie.Need-returns
 returns c =
-    let known-is = c .before .known .ensures in
-    (c .size .ensures .0 ∙ ap size known-is, c .size .ensures .1 (ap good known-is ∙ known-good (c .before .before .args .s)))
+    let known-is = c .before .known .ensures in (
+      c .size .ensures .0 ∙ ap size known-is,
+      c .size .ensures .1 (ap good known-is ∙ known-good (c .before .before .args .s)),
+    )
 
 pub wanted-spec : {M : Type 1} → statement M
 wanted-spec = tie.close (tie.spec known-requires size-requires returns)

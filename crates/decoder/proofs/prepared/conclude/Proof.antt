@@ -15,13 +15,22 @@ same-length c = search needs
 
 returns : tie.Need-returns
 returns c =
-    let given = c .before .before .before .before .before .before .before .before .before in
+    let at-if1 = c .before .before .before .before in
+    let at-shared-slice-known = at-if1 .before .before .before .before in
+    let given = at-shared-slice-known .before in
     let refuse = c .before .before .refuse in
     λ y r. gives-unsettled (given .args .p) (given .args .form) y _ (given .args .e) r _ _ (refuse .result)
-    (unless _ (c .before .before .before .before .if1 .taken)) (refuse .ensures .0) (refuse .ensures .1 .0) (refuse .ensures .1 .1)
+    (unless _ (at-if1 .if1 .taken)) (refuse .ensures .0)
+    (refuse .ensures .1 .0) (refuse .ensures .1 .1)
 
 is-codeword-requires : tie.Need-is-codeword-requires
-is-codeword-requires c κs = let given = c .before .before .before .before .before in (given .pre .0, given .pre .3 (meets _ (c .if1 .left)), given .pre .2)
+is-codeword-requires c κs =
+    let at-shared-slice-known = c .before .before .before .before in
+    let given = at-shared-slice-known .before in (
+      given .pre .0,
+      given .pre .3 (meets _ (c .if1 .left)),
+      given .pre .2,
+    )
 
 refuse-requires-2 : tie.Need-refuse-requires-2
 refuse-requires-2 c κs = search needs
@@ -31,30 +40,53 @@ same-length-2 c = search needs
 
 returns-2 : tie.Need-returns-2
 returns-2 c =
-    let given = c .before .before .before .before .before .before .before .before .before .before .before in
+    let at-if2 = c .before .before .before .before in
+    let at-is-codeword = at-if2 .before in
+    let at-if1 = at-is-codeword .before in
+    let at-shared-slice-known = at-if1 .before .before .before .before in
+    let given = at-shared-slice-known .before in
     let refuse = c .before .before .refuse2 in
-    let wrong = sym (c .before .before .before .before .before .is-codeword .ensures) ∙ unless _ (c .before .before .before .before .if2 .taken) in
+    let wrong = sym (at-is-codeword .is-codeword .ensures)
+    ∙ unless _ (at-if2 .if2 .taken) in
     λ y r. gives-foreign (given .args .p) (given .args .form) y _ (given .args .e) r _ _ (refuse .result)
-    (meets _ (c .before .before .before .before .before .before .if1 .left)) wrong (refuse .ensures .0) (refuse .ensures .1 .0) (refuse .ensures .1 .1)
+    (meets _ (at-if1 .if1 .left)) wrong (refuse .ensures .0)
+    (refuse .ensures .1 .0) (refuse .ensures .1 .1)
 
 copy-requires : tie.Need-copy-requires
-copy-requires c κs = c .before .before .before .before .before .before .before .before .pre .1
+copy-requires c κs =
+    let at-struct-known = c .before .before .before .before in
+    let given = at-struct-known .before .before .before .before in
+    given .pre .1
 
 cast-changed : tie.Need-cast-changed
 cast-changed c = search needs
 
 changed-requires : tie.Need-changed-requires
-changed-requires c κs = c .before .before .before .before .before .before .before .before .before .before .before .before .before .pre .0 .valid .subwords .1
+changed-requires c κs =
+    let at-copy = c .before .before .before .before in
+    let at-if1 = at-copy .before .before .before .before in
+    let at-shared-slice-known = at-if1 .before .before .before .before in
+    let given = at-shared-slice-known .before in
+    given .pre .0 .valid .subwords .1
 
 same-length-3 : tie.Need-same-length-3
 same-length-3 c = search needs
 
 returns-3 : tie.Need-returns-3
 returns-3 c =
-    let given = c .before .before .before .before .before .before .before .before .before .before .before .before .before .before in
-    let right = sym (c .before .before .before .before .before .before .before .before .is-codeword .ensures) ∙ meets _ (c .before .before .before .before .before .before .before .if2 .left) in
-    λ y r. gives-read (given .args .p) (given .args .form) y (given .args .block .now) _ _ (given .args .e) _ (c .before .before .before .before .before .copy .ensures) (given .pre .0 .size)
-    (λ i. omega (arith, c .before .before .before .before .before .before .before .before .before .before .before .before .shared-slice-known2 .given i)) r (meets _ (c .before .before .before .before .before .before .before .before .before .if1 .left)) right refl refl (c .changed .ensures) refl
+    let at-out3 = c .before .before .before .before in
+    let at-copy = at-out3 .before in
+    let at-if2 = at-copy .before .before in
+    let at-is-codeword = at-if2 .before in
+    let at-if1 = at-is-codeword .before in
+    let at-shared-slice-known2 = at-if1 .before .before .before in
+    let given = at-shared-slice-known2 .before .before in
+    let right = sym (at-is-codeword .is-codeword .ensures)
+    ∙ meets _ (at-if2 .if2 .left) in
+    λ y r. gives-read (given .args .p) (given .args .form) y (given .args .block .now) _ _ (given .args .e) _
+    (at-copy .copy .ensures) (given .pre .0 .size)
+    (λ i. omega (arith, at-shared-slice-known2 .shared-slice-known2 .given i)) r
+    (meets _ (at-if1 .if1 .left)) right refl refl (c .changed .ensures) refl
 
 pub conclude-spec : {M : Type 1} → statement M
 conclude-spec =

@@ -10,7 +10,8 @@ remainder-requires c κs =
     (rw (rows-narrow (given .args .k) (c .if1 .taken)) at (given .pre .0), given .pre .1)
 
 returns : tie.Need-returns
-returns c = rw (rows-narrow (c .before .before .before .before .args .k) (c .before .if1 .taken)) (c .remainder .ensures)
+returns c =
+    rw (rows-narrow (c .before .before .before .before .args .k) (c .before .if1 .taken)) (c .remainder .ensures)
 
 remainder-requires-2 : tie.Need-remainder-requires-2
 remainder-requires-2 c κs =
@@ -18,7 +19,8 @@ remainder-requires-2 c κs =
     (rw (rows-wide (given .args .k) (omega (arith, c .if1 .left))) at (given .pre .0), given .pre .1)
 
 returns-2 : tie.Need-returns-2
-returns-2 c = rw (rows-wide (c .before .before .before .before .args .k) (omega (arith, c .before .if1 .left))) (c .remainder2 .ensures)
+returns-2 c = rw (rows-wide (c .before .before .before .before .args .k) (omega (arith, c .before .if1 .left)))
+    (c .remainder2 .ensures)
 
 pub remainder-spec : {M : Type 1} → statement M
 remainder-spec = tie.close (tie.spec remainder-requires returns remainder-requires-2 returns-2)

@@ -34,8 +34,10 @@ loop-holds c = (search needs, filled-none 48 _, λ h. absurd (omega arith))
 
 lanes-requires : tie.Need-lanes-requires Inv-loop μ-loop
 lanes-requires c κs =
-    let now = c .before .loop in
-    (omega (arith, c .before .before .before .before .before .pre, c .loop-test .taken), now .inv .2)
+    let at-loop = c .before in
+    let given = at-loop .before .before .before .before in
+    let now = at-loop .loop in
+    (omega (arith, given .pre, c .loop-test .taken), now .inv .2)
 
 array-read-s : tie.Need-array-read-s Inv-loop μ-loop
 array-read-s c = omega arith
@@ -51,13 +53,15 @@ loop-less c = search needs
 
 loop-again : tie.Need-loop-again Inv-loop μ-loop
 loop-again c =
-    let now = c .before .before .loop in
-    let r = c .before .before .before .before .before .before .args .r .now in
+    let at-loop = c .before .before in
+    let now = at-loop .loop in
+    let r = at-loop .before .before .before .before .args .r .now in
     let i = now .i in
     let u = c .lanes .result in
     let e : i - i % 32 + i % 32 ≡ i = omega arith in
     let d : i % 32 < 32 = omega arith in
-    let here = sym (read-at of 0 u (i % 32)) ∙ c .lanes .ensures .at (i % 32) d ∙ ap (syndrome (length r) (bytes r)) e in (
+    let here = sym (read-at of 0 u (i % 32)) ∙ c .lanes .ensures .at (i % 32) d
+    ∙ ap (syndrome (length r) (bytes r)) e in (
       omega arith,
       filled-more _ (now .inv .1) (omega arith) (val-of _ ∙ here),
       λ h. let s : i + 1 - (i + 1) % 32 ≡ i - i % 32 = omega arith in rw s (c .lanes .ensures),
@@ -65,8 +69,9 @@ loop-again c =
 
 returns-2 : tie.Need-returns-2 Inv-loop μ-loop
 returns-2 c =
-    let end = c .before .loop in
-    let given = c .before .before .before .before .before .args in
+    let at-loop = c .before in
+    let end = at-loop .loop in
+    let given = at-loop .before .before .before .before .args in
     let word = given .r .now in
     let e : end .i ≡ given .k = omega (arith, end .inv .0) in
     row-values _ (end .inv .1 .long) ∙ end .inv .1 .is ∙ ap (λ i. cut i (syndrome (length word) (bytes word))) e

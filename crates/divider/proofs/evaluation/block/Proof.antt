@@ -39,10 +39,12 @@ loop-less c = search needs
 
 loop-again : tie.Need-loop-again Inv-loop μ-loop
 loop-again c =
-    let now = c .before .before .before .before .loop in
-    let r = c .before .before .before .before .before .before .before .args .r .now in (
+    let at-loop = c .before .before .before .before in
+    let now = at-loop .loop in
+    let r = at-loop .before .before .before .args .r .now in (
       omega arith,
-      lanes-more (length r) (bytes r) _ _ (now .p) _ _ _ (omega arith) (now .inv .0) (now .inv .1) (sym (read-at of 0 r (now .p - 1))) (c .horner .ensures),
+      lanes-more (length r) (bytes r) _ _ (now .p) _ _ _ (omega arith) (now .inv .0) (now .inv .1)
+          (sym (read-at of 0 r (now .p - 1))) (c .horner .ensures),
     )
 
 returns : tie.Need-returns Inv-loop μ-loop
@@ -50,7 +52,8 @@ returns c =
     let end = c .before .loop in
     let given = c .before .before .before .before in
     let e : end .p ≡ 0 = omega arith in
-    lanes-all (length (given .args .r .now)) _ (given .args .i) _ _ (given .pre) (c .before .before .roots .ensures) (rw e at (end .inv .1))
+    lanes-all (length (given .args .r .now)) _ (given .args .i) _ _ (given .pre)
+    (c .before .before .roots .ensures) (rw e at (end .inv .1))
 
 pub block-spec : {M : Type 1} → statement M
 block-spec =

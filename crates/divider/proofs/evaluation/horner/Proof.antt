@@ -11,7 +11,8 @@ use Rattle.divider.proofs.evaluation.horner.Statement.{statement}
 use Rattle.divider.proofs.evaluation.horner.Tie as tie
 
 abbrev Inv-loop : tie.InvT-loop
-Inv-loop x i s v out₀ j₀ out j = (j ≤ 32) × (length out ≡ 32) × (bytes out ≡ cut j (λ j. bytes v j ⊙ bytes x (i + j) ⊕ of s))
+Inv-loop x i s v out₀ j₀ out j = (j ≤ 32) × (length out ≡ 32)
+    × (bytes out ≡ cut j (λ j. bytes v j ⊙ bytes x (i + j) ⊕ of s))
 
 abbrev μ-loop : tie.MeasureT-loop
 μ-loop x i s v out₀ j₀ out j = 32 - j
@@ -42,13 +43,16 @@ loop-less c = search needs
 
 loop-again : tie.Need-loop-again Inv-loop μ-loop
 loop-again c =
-    let now = c .before .before .before .loop in
-    let given = c .before .before .before .before .before .args in
+    let at-loop = c .before .before .before in
+    let now = at-loop .loop in
+    let given = at-loop .before .before .args in
     let x = given .x .now in
-    let product = c .multiply .ensures ∙ sym (ap₂ _⊙_ (read-at of 0 (given .t3) (now .j)) (read-at of 0 x (given .i + now .j))) in (
+    let product = c .multiply .ensures
+    ∙ sym (ap₂ _⊙_ (read-at of 0 (given .t3) (now .j)) (read-at of 0 x (given .i + now .j))) in (
       omega arith,
       length-set (now .out) _ _ ∙ now .inv .1,
-      read-store of 0 (now .out) (now .j) _ _ (omega arith) (now .inv .2) (of-xor _ _ ∙ ap (λ (t : F). t ⊕ of (given .s)) product),
+      read-store of 0 (now .out) (now .j) _ _ (omega arith) (now .inv .2)
+          (of-xor _ _ ∙ ap (λ (t : F). t ⊕ of (given .s)) product),
     )
 
 returns : tie.Need-returns Inv-loop μ-loop

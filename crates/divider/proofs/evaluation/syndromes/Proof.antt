@@ -25,11 +25,13 @@ at-roots-requires c κs = search needs
 
 returns : tie.Need-returns
 returns c =
-    let given = c .before .before .before .before .before in
-    let residue = c .before .before .residue in
+    let at-residue = c .before .before in
+    let given = at-residue .before .before .before in
+    let residue = at-residue .residue in
     let long : length (residue .result) ≡ 48 = search needs in
     c .at-roots .ensures
-    ∙ residue-syndromes (length (given .args .word .now)) (given .args .k) _ (omega (arith, given .pre .1)) (residue .result)
+    ∙ residue-syndromes (length (given .args .word .now)) (given .args .k) _
+    (omega (arith, given .pre .1)) (residue .result)
     (omega (arith, long, given .pre .1)) (residue .ensures)
 
 pub syndromes-spec : {M : Type 1} → statement M

@@ -15,7 +15,8 @@ use Rattle.divider.proofs.generator.generator.Tie as tie
 
 abbrev Inv-loop : tie.InvT-loop
 Inv-loop first k z g₀ e₀ j₀ g e j =
-    (j ≤ k) × (length g ≡ 48) × (e ≤ 648 * j) × (pow α e ≡ generator first k (k - j)) × (bytes g ≡ zpow (48 - j) ⊠ drop (48 - j) (aligned first k))
+    (j ≤ k) × (length g ≡ 48) × (e ≤ 648 * j) × (pow α e ≡ generator first k (k - j))
+    × (bytes g ≡ zpow (48 - j) ⊠ drop (48 - j) (aligned first k))
 
 abbrev μ-loop : tie.MeasureT-loop
 μ-loop first k z g₀ e₀ j₀ g e j = k - j
@@ -85,20 +86,24 @@ loop-less c = search needs
 
 loop-again : tie.Need-loop-again Inv-loop μ-loop
 loop-again c =
-    let now = c .before .before .before .before .loop in
-    let given = c .before .before .before .before .before .before in
-    let zech = c .before .before .before .before .before .zech .ensures in
+    let at-loop = c .before .before .before .before in
+    let at-zech = at-loop .before in
+    let given = at-zech .before in
+    let now = at-loop .loop in
+    let zech = at-zech .zech .ensures in
     let first = given .args .first in
     let k = given .args .k in
     let up = ap (pow α) (c .before .before .wide .ensures .0) ∙ zech .at (k - (now .j + 1)) (omega arith) in
     let down = ap (pow α) (c .before .wide2 .ensures .0) ∙ zech .at (now .j) (omega arith) in
     let next =
-    exponent-more first k (now .j) (now .e) (c .before .before .wide .result) (c .before .wide2 .result) (omega arith) (omega arith) (now .inv .3) up down in (
+    exponent-more first k (now .j) (now .e) (c .before .before .wide .result) (c .before .wide2 .result) (omega arith)
+    (omega arith) (now .inv .3) up down in (
       omega arith,
       length-set (now .g) _ _ ∙ now .inv .1,
       omega arith,
       next,
-      back-more first (now .g) k (now .j) _ (omega arith) (omega arith) (now .inv .1) (now .inv .4) (sym (val-of _) ∙ c .power .ensures ∙ next),
+      back-more first (now .g) k (now .j) _ (omega arith) (omega arith) (now .inv .1) (now .inv .4)
+          (sym (val-of _) ∙ c .power .ensures ∙ next),
     )
 
 returns : tie.Need-returns Inv-loop μ-loop

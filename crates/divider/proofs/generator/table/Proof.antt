@@ -11,8 +11,11 @@ generator-requires c κs = search needs
 
 multiples-requires : tie.Need-multiples-requires
 multiples-requires c κs =
-    let given = c .before .before .before in
-    (search needs, λ i h. ap (λ (f : Series). f i) (c .before .generator .ensures) ∙ aligned-low (given .args .first) (given .args .k) i h)
+    let given = c .before .before .before in (
+      search needs,
+      λ i h. ap (λ (f : Series). f i) (c .before .generator .ensures)
+          ∙ aligned-low (given .args .first) (given .args .k) i h,
+    )
 
 same-length : tie.Need-same-length
 same-length c = search needs

@@ -1,6 +1,7 @@
 -- The entries are Zech's logarithms: antt computes the test here.
 use mathlib.Core.Bool.{xor}
-use Rattle.field.specs.Definition.{𝟎, 𝟏, α, _⊕_, _⊙_, times, plus, scale, z⁸, horner, modulo, coefficients, bit, byte, powers}
+use Rattle.field.specs.Definition.{𝟎, 𝟏, α, _⊕_, _⊙_, times, plus, scale, z⁸, horner, modulo}
+use Rattle.field.specs.Definition.{coefficients, bit, byte, powers}
 use Rattle.field.specs.Log.{powerTable}
 use Rattle.field.specs.Test.{all}
 use Rattle.divider.specs.GeneratorCoefficients.{zech?, zech}

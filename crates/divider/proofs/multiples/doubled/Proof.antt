@@ -40,7 +40,8 @@ loop-again : tie.Need-loop-again Inv-loop μ-loop
 loop-again c =
     let now = c .before .before .loop in (
       length-set (now .out) _ _ ∙ now .inv .0,
-      read-store of 0 (now .out) (now .i) _ (K α ⊠ bytes (c .before .before .before .args .t1)) (omega arith) (now .inv .1)
+      read-store of 0 (now .out) (now .i) _ (K α ⊠ bytes (c .before .before .before .args .t1))
+          (omega arith) (now .inv .1)
           (c .twice .ensures ∙ sym (K-⊠-at α _ (now .i) ∙ ap (λ (s : F). α ⊙ s) (read-at of 0 _ (now .i)))),
     )
 

@@ -30,7 +30,8 @@ sum-requires c κs = search needs
 
 write-requires : tie.Need-write-requires Inv-loop μ-loop
 write-requires c κs =
-    let given = c .before .before .before .before .before .before .before in
+    let at-loop-test = c .before .before .before .before in
+    let given = at-loop-test .before .before .before in
     let sum = c .sum .ensures in (
       search needs,
       search needs,
@@ -45,9 +46,14 @@ loop-less c = search needs
 
 loop-again : tie.Need-loop-again Inv-loop μ-loop
 loop-again c =
-    let now = c .before .before .before .before .before .before .before .before .loop in
-    let r = packed (c .before .before .before .before .before .before .before .before .before .before .args .r) in
-    let sum = c .before .before .before .sum .ensures .0 ∙ ap (λ (f : Series). f ⊞ r) (c .before .before .before .before .before .row .ensures .0) in
+    let at-sum = c .before .before .before in
+    let at-row = at-sum .before .before in
+    let at-loop = at-row .before .before .before in
+    let given = at-loop .before .before in
+    let now = at-loop .loop in
+    let r = packed (given .args .r) in
+    let sum = at-sum .sum .ensures .0
+    ∙ ap (λ (f : Series). f ⊞ r) (at-row .row .ensures .0) in
     (omega arith, added-more _ (now .inv .1) (omega arith) sum (c .before .before .write .ensures))
 
 same-length : tie.Need-same-length Inv-loop μ-loop

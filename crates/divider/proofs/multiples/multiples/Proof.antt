@@ -21,18 +21,24 @@ write-requires : tie.Need-write-requires Inv-loop μ-loop
 write-requires c κs = search needs
 
 loop-holds : tie.Need-loop-holds Inv-loop μ-loop
-loop-holds c = (refl, built-one _ _ _ _ (c .before .before .before .before .before .pre .0) (c .before .before .write .ensures))
+loop-holds c =
+    let at-write = c .before .before in
+    let given = at-write .before .before .before in
+    (refl, built-one _ _ _ _ (given .pre .0) (at-write .write .ensures))
 
 pack-requires : tie.Need-pack-requires Inv-loop μ-loop
 pack-requires c κs = search needs
 
 level-requires : tie.Need-level-requires Inv-loop μ-loop
 level-requires c κs =
-    let now = c .before .before .before .loop in
-    let given = c .before .before .before .before .before .before .before .before .before in
+    let at-loop = c .before .before .before in
+    let at-write = at-loop .before .before .before in
+    let given = at-write .before .before .before in
+    let now = at-loop .loop in
     let r = c .before .pack .result in
     let more : now .w < 256 = omega (arith, c .before .before .loop-test .taken) in
-    let slim = built-slim (given .args .k) r (now .inv .1) more (given .pre .1) (search needs) (search needs) (c .before .pack .ensures) in
+    let slim = built-slim (given .args .k) r (now .inv .1) more (given .pre .1) (search needs) (search needs)
+    (c .before .pack .ensures) in
     (power-room (now .w) (now .inv .1 .power) more .1, now .inv .1 .long, slim)
 
 doubled-requires : tie.Need-doubled-requires Inv-loop μ-loop
@@ -43,17 +49,26 @@ add-w c = search needs
 
 loop-less : tie.Need-loop-less Inv-loop μ-loop
 loop-less c =
-    let tested = c .before .before .before .before .before .before in
+    let at-level = c .before .before .before in
+    let tested = at-level .before .before .before in
     let now = tested .before .loop in
-    omega (arith, power-room (now .w) (now .inv .1 .power) (omega (arith, tested .loop-test .taken)) .0, tested .loop-test .taken)
+    omega (
+      arith,
+      power-room (now .w) (now .inv .1 .power) (omega (arith, tested .loop-test .taken)) .0,
+      tested .loop-test .taken,
+    )
 
 loop-again : tie.Need-loop-again Inv-loop μ-loop
 loop-again c =
-    let tested = c .before .before .before .before .before .before in
+    let at-level = c .before .before .before in
+    let at-pack = at-level .before .before in
+    let tested = at-pack .before in
     let now = tested .before .loop in
-    let level = c .before .before .before .level .ensures in
-    let packed = c .before .before .before .before .before .pack .ensures in
-    (level .long ∙ now .inv .0, built-more _ _ _ (now .inv .1) (omega (arith, tested .loop-test .taken)) packed level (c .doubled .ensures))
+    let level = at-level .level .ensures in
+    let packed = at-pack .pack .ensures in (
+      level .long ∙ now .inv .0,
+      built-more _ _ _ (now .inv .1) (omega (arith, tested .loop-test .taken)) packed level (c .doubled .ensures),
+    )
 
 same-length : tie.Need-same-length Inv-loop μ-loop
 same-length c = c .before .loop .inv .0 ∙ c .before .before .before .before .write .ensures .long

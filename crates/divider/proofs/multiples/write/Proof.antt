@@ -22,10 +22,13 @@ same-length c = search needs
 
 returns : tie.Need-returns
 returns c =
-    let first = c .before .before .before .before .before .before in
-    let given = first .before .before .before .before in
-    wrote-narrow (given .args .k) (given .args .f) (given .args .r) (first .before .before .if1 .taken) (given .pre .2) (first .two .ensures)
-    (c .before .before .two2 .ensures)
+    let at-two2 = c .before .before in
+    let first = at-two2 .before .before .before .before in
+    let at-if1 = first .before .before in
+    let given = at-if1 .before .before in
+    wrote-narrow (given .args .k) (given .args .f) (given .args .r) (at-if1 .if1 .taken)
+    (given .pre .2) (first .two .ensures)
+    (at-two2 .two2 .ensures)
 
 mul-i-2 : tie.Need-mul-i-2
 mul-i-2 c = search needs
@@ -50,11 +53,14 @@ same-length-2 c = search needs
 
 returns-2 : tie.Need-returns-2
 returns-2 c =
-    let second = c .before .before .before .before .before .before in
+    let at-two5 = c .before .before in
+    let second = at-two5 .before .before .before .before in
     let first = second .before .before .before .before in
-    let given = first .before .before .before .before in
-    wrote-wide (given .args .k) (given .args .f) (given .args .r) (omega (arith, first .before .before .if1 .left)) (first .two3 .ensures) (second .two4 .ensures)
-    (c .before .before .two5 .ensures)
+    let at-if1 = first .before .before in
+    let given = at-if1 .before .before in
+    wrote-wide (given .args .k) (given .args .f) (given .args .r) (omega (arith, at-if1 .if1 .left))
+    (first .two3 .ensures) (second .two4 .ensures)
+    (at-two5 .two5 .ensures)
 
 pub write-spec : {M : Type 1} → statement M
 write-spec =

@@ -16,7 +16,8 @@ use Rattle.divider.proofs.packed.add_word.Tie as tie
 
 abbrev Inv-loop : tie.InvT-loop
 Inv-loop w at out₀ v₀ i₀ out v i =
-    (i ≤ 8) × (length out ≡ length out₀) × ((k : ℕ) → digits v k ≡ digits w (i + k)) × (bytes out ≡ bytes out₀ ⊞ zpow at ⊠ cut i (digits w))
+    (i ≤ 8) × (length out ≡ length out₀) × ((k : ℕ) → digits v k ≡ digits w (i + k))
+    × (bytes out ≡ bytes out₀ ⊞ zpow at ⊠ cut i (digits w))
 
 abbrev μ-loop : tie.MeasureT-loop
 μ-loop w at out₀ v₀ i₀ out v i = 8 - i
@@ -54,7 +55,8 @@ loop-again c =
     let sum = bytes-xor (now .out) _ _ ∙ ap (λ (s : F). bytes (now .out) (given .at + now .i) ⊕ s) first in (
       omega arith,
       length-set (now .out) _ _ ∙ now .inv .1,
-      λ k. let d : now .i + suc k ≡ now .i + 1 + k = omega arith in digits-next (now .v) k ∙ now .inv .2 (suc k) ∙ ap (digits (given .w)) d,
+      λ k. let d : now .i + suc k ≡ now .i + 1 + k = omega arith in digits-next (now .v) k ∙ now .inv .2 (suc k)
+          ∙ ap (digits (given .w)) d,
       add-more (now .out) (given .at) (now .i) _ _ (digits (given .w)) (omega arith) (now .inv .3) sum,
     )
 

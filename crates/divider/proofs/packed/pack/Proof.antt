@@ -55,9 +55,11 @@ returns c =
     let word1 = word2 .before .before in
     let given = word1 .before .before in
     let list = given .args .t1 in
-    six-pack (bytes list) _ _ _ _ _ _ (word1 .word .ensures) (word2 .word2 .ensures) (word3 .word3 .ensures) (word4 .word4 .ensures)
+    six-pack (bytes list) _ _ _ _ _ _ (word1 .word .ensures) (word2 .word2 .ensures)
+    (word3 .word3 .ensures) (word4 .word4 .ensures)
     (word5 .word5 .ensures) (c .word6 .ensures)
-    ∙ below-cut-eq 48 (bytes list) (below-weaken (length list) 48 _ (below-read of 0 of-zero list) (omega (arith, given .good)))
+    ∙ below-cut-eq 48 (bytes list)
+    (below-weaken (length list) 48 _ (below-read of 0 of-zero list) (omega (arith, given .good)))
 
 pub pack-spec : {M : Type 1} → statement M
 pack-spec =

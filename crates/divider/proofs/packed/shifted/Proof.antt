@@ -6,8 +6,11 @@ use Rattle.divider.proofs.packed.shifted.Tie as tie
 
 returns : tie.Need-returns
 returns c =
-    let half = c .before .before .before .before .before .before .before .before .before in
-    let given = half .before .before .before .before .before .before .before .before in
+    let at-struct-known13 = c .before .before .before .before in
+    let at-struct-known9 = at-struct-known13 .before .before .before .before in
+    let half = at-struct-known9 .before in
+    let at-struct-known4 = half .before .before .before .before in
+    let given = at-struct-known4 .before .before .before .before in
     let r = given .args .r in
     let m = given .args .m in
     let h0 : Word (r .0) = omega (arith, given .good .0) in

@@ -5,7 +5,10 @@ use Rattle.divider.proofs.packed.sum.Tie as tie
 
 returns : tie.Need-returns
 returns c =
-    let given = c .before .before .before .before .before .before .before .before .before .before .before .before .args in
+    let at-struct-known8 = c .before .before .before .before in
+    let at-struct-known4 = at-struct-known8 .before .before .before .before in
+    let given =
+    at-struct-known4 .before .before .before .before .args in
     let a = given .a in
     let b = given .b in (
       six-xor (a .0) (a .1) (a .2) (a .3) (a .4) (a .5) (b .0) (b .1) (b .2) (b .3) (b .4) (b .5),

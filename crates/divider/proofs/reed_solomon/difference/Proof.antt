@@ -12,7 +12,8 @@ use Rattle.divider.proofs.reed_solomon.difference.Statement.{statement}
 use Rattle.divider.proofs.reed_solomon.difference.Tie as tie
 
 abbrev Inv-loop : tie.InvT-loop
-Inv-loop word k checks above out₀ q₀ out q = (q ≤ k) × (length out ≡ 48) × (bytes out ≡ cut q (bytes word ⊞ drop above (bytes checks)))
+Inv-loop word k checks above out₀ q₀ out q = (q ≤ k) × (length out ≡ 48)
+    × (bytes out ≡ cut q (bytes word ⊞ drop above (bytes checks)))
 
 abbrev μ-loop : tie.MeasureT-loop
 μ-loop word k checks above out₀ q₀ out q = k - q
@@ -46,16 +47,18 @@ loop-less c = search needs
 
 loop-again : tie.Need-loop-again Inv-loop μ-loop
 loop-again c =
+    let at-unpack = c .before .before .before in
+    let given = at-unpack .before .before in
     let now = c .before .before .loop in
-    let given = c .before .before .before .before .before in
     let word = given .args .word .now in
-    let checks = c .before .before .before .unpack .result in
+    let checks = at-unpack .unpack .result in
     let above = 48 - given .args .k in
     let check = drop-at above (bytes checks) (now .q) ∙ read-at of 0 checks (above + now .q) in (
       omega arith,
       length-set (now .out) (now .q) _ ∙ now .inv .1,
       read-store of 0 (now .out) (now .q) _ _ (omega (arith, now .inv .1, given .pre .0)) (now .inv .2)
-          (of-xor _ _ ∙ sym (⊞-at (bytes word) (drop above (bytes checks)) (now .q) ∙ ap₂ _⊕_ (read-at of 0 word (now .q)) check)),
+          (of-xor _ _
+          ∙ sym (⊞-at (bytes word) (drop above (bytes checks)) (now .q) ∙ ap₂ _⊕_ (read-at of 0 word (now .q)) check)),
     )
 
 returns : tie.Need-returns Inv-loop μ-loop
@@ -64,7 +67,8 @@ returns c =
     let given = c .before .before .before .before in
     let k = given .args .k in
     let e : end .q ≡ k = omega arith in
-    (rw e at (end .inv .2)) ∙ ap (λ (f : Series). cut k (bytes (given .args .word .now) ⊞ drop (48 - k) f)) (c .before .before .unpack .ensures)
+    (rw e at (end .inv .2))
+    ∙ ap (λ (f : Series). cut k (bytes (given .args .word .now) ⊞ drop (48 - k) f)) (c .before .before .unpack .ensures)
 
 pub difference-spec : {M : Type 1} → statement M
 difference-spec =

@@ -16,7 +16,8 @@ returns : tie.Need-returns
 returns c =
     let given = c .before .before .before .before in
     let word = given .args .word .now in
-    residue-table (given .args .first) (length word) (given .args .k) (given .args .t .now) (bytes word) _ _ (given .pre .1) (given .pre .2) (given .pre .0)
+    residue-table (given .args .first) (length word) (given .args .k) (given .args .t .now) (bytes word) _ _
+    (given .pre .1) (given .pre .2) (given .pre .0)
     (c .before .remainder .ensures) (c .difference .ensures)
 
 pub residue-spec : {M : Type 1} → statement M

@@ -24,4 +24,5 @@ returns-2 : tie.Need-returns-2
 returns-2 c = carried-is _ _ _ _ _ (c .before .before .before .corner .ensures) (c .before .add-subword .ensures)
 
 pub carried-spec : {M : Type 1} → statement M
-carried-spec = tie.close (tie.spec cast-if1 returns corner-requires slice-aggregate-add-subword add-subword-requires returns-2)
+carried-spec =
+    tie.close (tie.spec cast-if1 returns corner-requires slice-aggregate-add-subword add-subword-requires returns-2)

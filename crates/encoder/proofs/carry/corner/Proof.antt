@@ -11,7 +11,8 @@ use Rattle.encoder.proofs.carry.corner.Tie as tie
 
 abbrev Inv-loop : tie.InvT-loop
 Inv-loop p i block a₀ b₀ c₀ j₀ a b c j =
-    (j ≤ p .subwords) × (length a ≡ 255) × (length b ≡ 255) × (length c ≡ 255) × Gathers (p .length) (p .subwords) (bytes block) i 0 j a
+    (j ≤ p .subwords) × (length a ≡ 255) × (length b ≡ 255) × (length c ≡ 255)
+    × Gathers (p .length) (p .subwords) (bytes block) i 0 j a
     × Gathers (p .length) (p .subwords) (bytes block) i 1 j b × Gathers (p .length) (p .subwords) (bytes block) i 2 j c
 
 abbrev μ-loop : tie.MeasureT-loop
@@ -56,17 +57,21 @@ loop-less c = search needs
 
 loop-again : tie.Need-loop-again Inv-loop μ-loop
 loop-again c =
-    let second = c .before .before .before .before in
-    let third = second .before .before .before .before in
-    let now = third .before .before .before .before .loop in
-    let given = third .before .before .before .before .before .before .before in
+    let at-b3 = c .before .before .before in
+    let second = at-b3 .before in
+    let at-c2 = second .before .before .before in
+    let third = at-c2 .before in
+    let at-loop-test = third .before .before .before in
+    let at-loop = at-loop-test .before in
+    let given = at-loop .before .before .before in
+    let now = at-loop .loop in
     let (m, la, lb, lc, ga, gb, gc) = now .inv in
-    let e : now .j ≡ suc (now .j - 1) = omega (arith, third .before .before .before .loop-test .taken) in
+    let e : now .j ≡ suc (now .j - 1) = omega (arith, at-loop-test .loop-test .taken) in
     let h : now .j - 1 < given .args .p .subwords = omega (arith, m, e) in (
       omega (arith, m),
       omega (arith, c .a3 .given, la),
-      omega (arith, c .before .before .before .b3 .given, lb),
-      omega (arith, second .before .before .before .c2 .given, lc),
+      omega (arith, at-b3 .b3 .given, lb),
+      omega (arith, at-c2 .c2 .given, lc),
       gathers-first _ _ _ _ (now .j - 1) (now .j) _ _ e h ga (c .before .add-subword .ensures),
       gathers-next _ _ _ _ 0 (now .j - 1) (now .j) _ _ _ e h ga gb (second .rise2 .ensures),
       gathers-next _ _ _ _ 1 (now .j - 1) (now .j) _ _ _ e h gb gc (third .rise .ensures),
@@ -74,25 +79,32 @@ loop-again c =
 
 returns : tie.Need-returns Inv-loop μ-loop
 returns c =
-    let given = c .before .before .before .before .before in
-    let end = c .before .before .loop in
+    let at-loop = c .before .before in
+    let given = at-loop .before .before .before in
+    let end = at-loop .loop in
     let (_, _, _, _, ga, _, _) = end .inv in
-    gathers-all _ (given .pre .0 .valid) _ _ 0 (end .j) _ (given .pre .1) (sym (c .if1 .taken)) (omega (arith, c .before .loop-test .left)) ga
+    gathers-all _ (given .pre .0 .valid) _ _ 0 (end .j) _ (given .pre .1) (sym (c .if1 .taken))
+    (omega (arith, c .before .loop-test .left)) ga
 
 returns-2 : tie.Need-returns-2 Inv-loop μ-loop
 returns-2 c =
-    let given = c .before .before .before .before .before .before in
-    let end = c .before .before .before .loop in
+    let at-loop = c .before .before .before in
+    let given = at-loop .before .before .before in
+    let end = at-loop .loop in
     let (_, _, _, _, _, gb, _) = end .inv in
-    gathers-all _ (given .pre .0 .valid) _ _ 1 (end .j) _ (given .pre .1) (sym (c .if2 .taken)) (omega (arith, c .before .before .loop-test .left)) gb
+    gathers-all _ (given .pre .0 .valid) _ _ 1 (end .j) _ (given .pre .1) (sym (c .if2 .taken))
+    (omega (arith, c .before .before .loop-test .left)) gb
 
 returns-3 : tie.Need-returns-3 Inv-loop μ-loop
 returns-3 c =
-    let given = c .before .before .before .before .before .before in
-    let end = c .before .before .before .loop in
+    let at-loop = c .before .before .before in
+    let given = at-loop .before .before .before in
+    let end = at-loop .loop in
     let (_, _, _, _, _, _, gc) = end .inv in
-    let e : 2 ≡ given .args .i = omega (arith, given .pre .1, given .pre .0 .valid .nested, c .if2 .left, c .before .if1 .left) in
-    gathers-all _ (given .pre .0 .valid) _ _ 2 (end .j) _ (given .pre .1) e (omega (arith, c .before .before .loop-test .left)) gc
+    let e : 2 ≡ given .args .i =
+    omega (arith, given .pre .1, given .pre .0 .valid .nested, c .if2 .left, c .before .if1 .left) in
+    gathers-all _ (given .pre .0 .valid) _ _ 2 (end .j) _ (given .pre .1) e
+    (omega (arith, c .before .before .loop-test .left)) gc
 
 pub corner-spec : {M : Type 1} → statement M
 corner-spec =

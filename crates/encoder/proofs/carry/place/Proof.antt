@@ -46,7 +46,8 @@ loop-again c =
     let given = c .before .before .before .before in (
       omega arith,
       length-set (now .word) _ _ ∙ now .inv .1,
-      placed-more (given .args .k) (now .q) _ (given .args .input .now) (given .args .e .now) (now .word) (omega (arith, now .inv .1, given .pre .0))
+      placed-more (given .args .k) (now .q) _ (given .args .input .now) (given .args .e .now) (now .word)
+          (omega (arith, now .inv .1, given .pre .0))
           (of-xor _ _ ∙ ap₂ _⊕_ (sym (read-at of 0 _ _)) (sym (read-at of 0 _ _))) (now .inv .2),
     )
 
@@ -57,7 +58,8 @@ returns : tie.Need-returns Inv-loop μ-loop
 returns c =
     let end = c .before .loop in
     let given = c .before .before in
-    placed-all (given .args .k) (end .q) _ _ (end .word) (omega arith) (omega (arith, end .inv .1, given .pre .0)) (omega (arith, end .inv .1, given .pre .1)) (end .inv .2)
+    placed-all (given .args .k) (end .q) _ _ (end .word) (omega arith) (omega (arith, end .inv .1, given .pre .0))
+    (omega (arith, end .inv .1, given .pre .1)) (end .inv .2)
 
 pub place-spec : {M : Type 1} → statement M
 place-spec =

@@ -12,7 +12,8 @@ twice-requires c κs = search needs
 returns : tie.Need-returns
 returns c =
     let e : c .before .before .args .l ≡ 1 = omega arith in
-    c .before .twice .ensures ∙ sym (ap (λ l. pow α l ⊙ of (c .before .before .args .x)) e ∙ ap (λ (s : F). s ⊙ of (c .before .before .args .x)) (pow-one α))
+    c .before .twice .ensures ∙ sym (ap (λ l. pow α l ⊙ of (c .before .before .args .x)) e
+    ∙ ap (λ (s : F). s ⊙ of (c .before .before .args .x)) (pow-one α))
 
 twice-requires-2 : tie.Need-twice-requires-2
 twice-requires-2 c κs = search needs
@@ -24,7 +25,8 @@ returns-2 c =
     let e : given .args .l ≡ 2 = omega (arith, c .before .if1 .left, given .pre) in
     c .twice2 .ensures
     ∙ ap (λ (s : F). α ⊙ s) (c .before .before .twice .ensures)
-    ∙ sym (ap (λ l. pow α l ⊙ x) e ∙ ap (λ (s : F). s ⊙ x) (pow-suc α 1 ∙ ap (λ (s : F). α ⊙ s) (pow-one α)) ∙ ⊙-assoc α α x)
+    ∙ sym (ap (λ l. pow α l ⊙ x) e
+    ∙ ap (λ (s : F). s ⊙ x) (pow-suc α 1 ∙ ap (λ (s : F). α ⊙ s) (pow-one α)) ∙ ⊙-assoc α α x)
 
 pub raised-spec : {M : Type 1} → statement M
 raised-spec = tie.close (tie.spec twice-requires returns twice-requires-2 returns-2)

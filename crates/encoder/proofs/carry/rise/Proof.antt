@@ -14,7 +14,8 @@ use Rattle.encoder.proofs.carry.rise.Tie as tie
 
 abbrev Inv-loop : tie.InvT-loop
 Inv-loop l last from word₀ q₀ word q =
-    (q ≤ length word₀) × (length word ≡ length word₀) × (bytes word ≡ bytes word₀ ⊞ K 𝟏 ⊠ cut q (change (pow α l) (bytes word₀) (bytes from)))
+    (q ≤ length word₀) × (length word ≡ length word₀)
+    × (bytes word ≡ bytes word₀ ⊞ K 𝟏 ⊠ cut q (change (pow α l) (bytes word₀) (bytes from)))
 
 abbrev μ-loop : tie.MeasureT-loop
 μ-loop l last from word₀ q₀ word q = length word₀ - q
@@ -45,12 +46,15 @@ loop-less c = search needs
 
 loop-again : tie.Need-loop-again Inv-loop μ-loop
 loop-again c =
-    let now = c .before .before .before .before .loop in
-    let given = c .before .before .before .before .before .before .before .before in (
+    let at-loop = c .before .before .before .before in
+    let given = at-loop .before .before .before .before in
+    let now = at-loop .loop in (
       omega (arith, now .inv .0, now .inv .1),
       length-set (now .word) _ _ ∙ now .inv .1,
-      rise-more (pow α (given .args .l)) (bytes (given .args .word .now)) (bytes (given .args .from .now)) (now .word) (now .q) _ (omega (arith, now .inv .1))
-          (now .inv .2) (of-xor _ _ ∙ ap₂ (λ (s t : F). s ⊕ t) (c .before .raised .ensures ∙ ap (λ (s : F). pow α (given .args .l) ⊙ s) (sym (read-at of 0 _ _))) (sym (read-at of 0 _ _))),
+      rise-more (pow α (given .args .l)) (bytes (given .args .word .now)) (bytes (given .args .from .now)) (now .word)
+          (now .q) _ (omega (arith, now .inv .1))
+          (now .inv .2) (of-xor _ _ ∙ ap₂ (λ (s t : F). s ⊕ t) (c .before .raised .ensures
+          ∙ ap (λ (s : F). pow α (given .args .l) ⊙ s) (sym (read-at of 0 _ _))) (sym (read-at of 0 _ _))),
     )
 
 same-length : tie.Need-same-length Inv-loop μ-loop
@@ -58,8 +62,9 @@ same-length c = c .before .loop .inv .1
 
 returns-2 : tie.Need-returns-2 Inv-loop μ-loop
 returns-2 c h =
-    let end = c .before .loop in
-    let given = c .before .before .before .before .before in
+    let at-loop = c .before in
+    let given = at-loop .before .before .before .before in
+    let end = at-loop .loop in
     end .inv .2 ∙ rise-all _ (end .q) _ _ (omega (arith, end .inv .1)) (given .pre .2)
 
 pub rise-spec : {M : Type 1} → statement M

@@ -30,12 +30,14 @@ carried-requires c κs = search needs
 
 mul-a : tie.Need-mul-a
 mul-a c =
-    let given = c .before .before .before .before .before .before .before in
+    let at-slice-known = c .before .before .before .before in
+    let given = at-slice-known .before .before .before in
     record { fits = omega (arith, inside _ _ (given .args .i) (given .pre .0) (given .pre .1)) }
 
 add-b : tie.Need-add-b
 add-b c =
-    let given = c .before .before .before .before .before .before .before in
+    let at-slice-known = c .before .before .before .before in
+    let given = at-slice-known .before .before .before in
     record { fits = omega (arith, inside _ _ (given .args .i) (given .pre .0) (given .pre .1)) }
 
 array-share-prefix-e : tie.Need-array-share-prefix-e
@@ -43,7 +45,8 @@ array-share-prefix-e c = search needs
 
 slice-aggregate-fill : tie.Need-slice-aggregate-fill
 slice-aggregate-fill c =
-    let given = c .before .before .before .before .before .before .before .before in
+    let at-struct-known = c .before .before .before .before in
+    let given = at-struct-known .before .before .before .before in
     sym (length-take-le (given .args .p .length) _ (omega (arith, given .pre .0 .valid .length)))
 
 sub-fill : tie.Need-sub-fill
@@ -54,12 +57,16 @@ part-fill-start c = search needs
 
 part-fill-end : tie.Need-part-fill-end
 part-fill-end c =
-    let given = c .before .before .before .before .before .before .before .before in
+    let at-struct-known = c .before .before .before .before in
+    let given = at-struct-known .before .before .before .before in
     inside _ _ (given .args .i) (given .pre .0) (given .pre .1) .0
 
 fill-requires : tie.Need-fill-requires
 fill-requires c κs =
-    let given = c .before .before .before .before .before .before .before .before .before in
+    let given =
+    let at-checks = c .before .before .before .before in
+    let at-shared-slice-known = at-checks .before .before .before .before in
+    at-shared-slice-known .before in
     let p = given .args .p in
     let i = given .args .i in
     let n = p .length in
@@ -79,17 +86,21 @@ same-length c = search needs
 returns : tie.Need-returns
 returns c =
     let fill = c .before .before in
-    let given = fill .before .before .before .before .before .before .before .before .before .before in
+    let at-carried = fill .before .before .before in
+    let at-checks = at-carried .before .before in
+    let at-shared-slice-known = at-checks .before .before .before .before in
+    let given = at-shared-slice-known .before in
     let p = given .args .p in
     let i = given .args .i in
     let n = p .length in
     let here = inside _ _ i (given .pre .0) (given .pre .1) .0 in
     let same = add-sub-cancel-left (i * n) n in
-    wrote-is p i _ _ _ _ (given .args .out .now) _ _ here (fill .before .before .before .before .before .checks .ensures)
+    wrote-is p i _ _ _ _ (given .args .out .now) _ _ here
+    (at-checks .checks .ensures)
     (part-length n i _ _ same here) same
     (omega (arith, c .before .out .given, part-length n i _ (given .args .out .now) same here))
     (omega (arith, given .pre .0 .valid .length))
-    (fill .before .before .before .carried .ensures) (fill .fill .ensures)
+    (at-carried .carried .ensures) (fill .fill .ensures)
 
 pub write-subword-spec : {M : Type 1} → statement M
 write-subword-spec =

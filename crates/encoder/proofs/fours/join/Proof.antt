@@ -50,8 +50,10 @@ loop-again c =
     let given = c .before .before .before .before in (
       omega arith,
       length-set (now .word) _ _ ∙ now .inv .1,
-      add-more (now .word) (given .args .at) (now .q) _ (bytes (given .args .word .now)) (bytes (given .args .from .now)) (omega (arith, now .inv .1, given .pre))
-          (now .inv .2) (bytes-xor (now .word) _ _ ∙ ap (λ (s : F). bytes (now .word) (given .args .at + now .q) ⊕ s) (sym (read-at of 0 _ _))),
+      add-more (now .word) (given .args .at) (now .q) _ (bytes (given .args .word .now))
+          (bytes (given .args .from .now)) (omega (arith, now .inv .1, given .pre))
+          (now .inv .2) (bytes-xor (now .word) _ _
+          ∙ ap (λ (s : F). bytes (now .word) (given .args .at + now .q) ⊕ s) (sym (read-at of 0 _ _))),
     )
 
 same-length : tie.Need-same-length Inv-loop μ-loop
@@ -61,7 +63,8 @@ returns : tie.Need-returns Inv-loop μ-loop
 returns c =
     let end = c .before .loop in
     let given = c .before .before in
-    let whole = below-cut-eq (end .q) _ (below-weaken (length (given .args .from .now)) (end .q) _ (below-read of 0 of-zero _) (omega arith)) in
+    let whole = below-cut-eq (end .q) _
+    (below-weaken (length (given .args .from .now)) (end .q) _ (below-read of 0 of-zero _) (omega arith)) in
     end .inv .2 ∙ ap (λ (f : Series). bytes (given .args .word .now) ⊞ zpow (given .args .at) ⊠ f) whole
 
 pub join-spec : {M : Type 1} → statement M

@@ -15,7 +15,8 @@ join-requires : tie.Need-join-requires
 join-requires c κs = search needs
 
 returns : tie.Need-returns
-returns c = c .before .join .ensures ∙ ap (λ (f : Series). f ⊞ zpow (c .before .before .before .before .args .k) ⊠ bytes (c .before .before .before .before .args .input .now)) (zeros 255) ∙ zero-⊞ _
+returns c = c .before .join .ensures ∙ ap (λ (f : Series). f ⊞ zpow (c .before .before .before .before .args .k)
+    ⊠ bytes (c .before .before .before .before .args .input .now)) (zeros 255) ∙ zero-⊞ _
 
 pub padded-spec : {M : Type 1} → statement M
 padded-spec = tie.close (tie.spec slice-aggregate-join join-requires returns)

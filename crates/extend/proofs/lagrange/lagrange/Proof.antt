@@ -22,7 +22,8 @@ returns : tie.Need-returns
 unfolding lagrange
 returns c =
     let d = c .before .before in
-    c .product3 .ensures ∙ ap₂ _⊙_ (c .before .product2 .ensures) (d .inverse .ensures ∙ ap inv (d .before .product .ensures))
+    c .product3 .ensures
+    ∙ ap₂ _⊙_ (c .before .product2 .ensures) (d .inverse .ensures ∙ ap inv (d .before .product .ensures))
 
 pub lagrange-spec : {M : Type 1} → statement M
 lagrange-spec = tie.close (tie.spec product-requires inverse-requires product-requires-2 product-requires-3 returns)

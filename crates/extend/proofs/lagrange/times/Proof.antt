@@ -1,5 +1,5 @@
 -- The three cases.
-use mathlib.Core.Path.{sym, ap, ap₂, _∙_}
+use mathlib.Core.Path.{sym, ap, _∙_}
 use Rattle.field.specs.Field.{F, _⊕_, _⊙_, ⊙-one, val}
 use Rattle.extend.specs.LagrangeDefinition.{flag}
 use Rattle.extend.specs.Lagrange.{factor-own, factor-other, factor-none}
@@ -10,7 +10,8 @@ use Rattle.extend.proofs.lagrange.times.Tie as tie
 returns : tie.Need-returns
 returns c =
     let given = c .before .args in
-    sym (⊙-one _) ∙ ap (λ (t : F). val (given .b) ⊙ t) (factor-own (flag (given .t2)) (given .i) (given .j) _ (c .if1 .taken))
+    sym (⊙-one _)
+    ∙ ap (λ (t : F). val (given .b) ⊙ t) (factor-own (flag (given .t2)) (given .i) (given .j) _ (c .if1 .taken))
 
 array-read-if2 : tie.Need-array-read-if2
 array-read-if2 c = search needs
@@ -37,7 +38,8 @@ returns-2 c =
 returns-3 : tie.Need-returns-3
 returns-3 c =
     let given = c .before .before .args in
-    sym (⊙-one _) ∙ ap (λ (t : F). val (given .b) ⊙ t) (factor-none (flag (given .t2)) (given .i) (given .j) _ (c .before .if1 .left) (c .if2 .left))
+    sym (⊙-one _) ∙ ap (λ (t : F). val (given .b) ⊙ t)
+    (factor-none (flag (given .t2)) (given .i) (given .j) _ (c .before .if1 .left) (c .if2 .left))
 
 pub times-spec : {M : Type 1} → statement M
 times-spec =

@@ -52,4 +52,5 @@ returns c =
 
 pub unsettled-spec : {M : Type 1} → statement M
 unsettled-spec =
-    tie.close (tie.spec Inv-loop μ-loop cast-m loop-holds array-read-counted counted-requires add-i loop-less loop-again returns)
+    tie.close (tie.spec Inv-loop μ-loop cast-m loop-holds array-read-counted counted-requires add-i
+    loop-less loop-again returns)

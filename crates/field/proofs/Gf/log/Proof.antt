@@ -1,7 +1,8 @@
 -- The table of logarithms is the one defined, entry by entry: antt computes it here.
 use mathlib.Core.Bool.{xor}
 use native.Mathlib.Omega.{arith}
-use Rattle.field.specs.Definition.{𝟎, 𝟏, α, _⊕_, _⊙_, times, plus, scale, z⁸, horner, modulo, coefficients, bit, byte, powers, place, logOf, val}
+use Rattle.field.specs.Definition.{𝟎, 𝟏, α, _⊕_, _⊙_, times, plus, scale, z⁸, horner, modulo, coefficients, bit}
+use Rattle.field.specs.Definition.{byte, powers, place, logOf, val}
 use Rattle.field.specs.Log.{tabulate, logTable, logTable-at, logTable-lt}
 use borrow.Author.Needs.{needs}
 use Rattle.field.proofs.Gf.log.Statement.{statement}
@@ -18,7 +19,8 @@ unfolding logTable tabulate logOf place powers byte bit 𝟎 𝟏 α _⊙_ times
 cast-t7 c = omega (arith, logTable-lt (c .before .args .self .0) (search needs))
 
 returns : tie.Need-returns
-unfolding val logTable tabulate logOf place powers byte bit 𝟎 𝟏 α _⊙_ times plus modulo horner scale z⁸ _⊕_ coefficients xor
+unfolding val logTable tabulate logOf place powers byte bit 𝟎 𝟏 α _⊙_ times plus modulo horner
+    scale z⁸ _⊕_ coefficients xor
 returns c = logTable-at (c .before .args .self .0) (search needs)
 
 pub log-spec : {M : Type 1} → statement M

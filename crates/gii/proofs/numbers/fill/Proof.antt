@@ -49,7 +49,8 @@ loop-again c =
     let room : now .i < length (given .to .now) = omega (arith, long, c .before .if1 .left) in (
       omega arith,
       omega arith,
-      ap (λ l. set l (now .i) (getD (given .list .now) (now .i) 0)) (now .inv .2) ∙ filled-more _ _ (now .i) (omega arith) room,
+      ap (λ l. set l (now .i) (getD (given .list .now) (now .i) 0)) (now .inv .2)
+          ∙ filled-more _ _ (now .i) (omega arith) room,
     )
 
 same-length-2 : tie.Need-same-length-2 Inv-loop μ-loop

@@ -13,7 +13,8 @@ use Rattle.gii.proofs.numbers.list_of.Tie as tie
 
 abbrev Inv-loop : tie.InvT-loop
 Inv-loop stage last changed lines list₀ i₀ list i =
-    (i ≤ 8) × (length lines ≡ 8) × (length list ≡ 28) × (take (4 + 3 * i) list ≡ take 4 list₀ ++ lines-numbers i (says lines))
+    (i ≤ 8) × (length lines ≡ 8) × (length list ≡ 28)
+    × (take (4 + 3 * i) list ≡ take 4 list₀ ++ lines-numbers i (says lines))
 
 abbrev μ-loop : tie.MeasureT-loop
 μ-loop stage last changed lines list₀ i₀ list i = 8 - i
@@ -53,13 +54,16 @@ loop-less c = search needs
 
 loop-again : tie.Need-loop-again Inv-loop μ-loop
 loop-again c =
-    let now = c .before .before .before .before .before .before .loop in
-    let head = c .before .before .before .before .before .before .before in
-    let line = c .before .before .before .line-numbers in (
+    let at-line-numbers = c .before .before .before in
+    let at-loop = at-line-numbers .before .before .before in
+    let head = at-loop .before in
+    let given = head .before in
+    let now = at-loop .loop in
+    let line = at-line-numbers .line-numbers in (
       omega arith,
       now .inv .1,
       omega (arith, now .inv .2, c .list2 .given),
-      lines-more (head .before .args .t4) (take 4 (head .head .result)) (now .list) _ _ (now .i) _
+      lines-more (given .args .t4) (take 4 (head .head .result)) (now .list) _ _ (now .i) _
           (omega (arith, now .inv .1)) (now .inv .3) (line .ensures) (c .before .put .ensures),
     )
 
@@ -67,7 +71,8 @@ returns : tie.Need-returns Inv-loop μ-loop
 returns c =
     let end = c .before .loop in
     let head = c .before .before in
-    lines-all (says (head .before .args .t4)) _ (head .head .result) (end .list) (end .i) (omega arith) (end .inv .2) (head .head .ensures)
+    lines-all (says (head .before .args .t4)) _ (head .head .result) (end .list) (end .i) (omega arith)
+    (end .inv .2) (head .head .ensures)
     (end .inv .3)
 
 pub list-of-spec : {M : Type 1} → statement M

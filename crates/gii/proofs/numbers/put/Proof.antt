@@ -31,7 +31,8 @@ add-list-2 c = search needs
 slice-write-list-3 : tie.Need-slice-write-list-3
 slice-write-list-3 c =
     let first = length-set (c .args .list .now) (c .args .k) (getD (c .args .t1) 0 0) in
-    let second = length-set (set (c .args .list .now) (c .args .k) (getD (c .args .t1) 0 0)) (c .args .k + 1) (getD (c .args .t1) 1 0) in
+    let second = length-set (set (c .args .list .now) (c .args .k) (getD (c .args .t1) 0 0)) (c .args .k + 1)
+    (getD (c .args .t1) 1 0) in
     omega (arith, c .pre, first, second)
 
 same-length : tie.Need-same-length

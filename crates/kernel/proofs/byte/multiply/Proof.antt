@@ -45,12 +45,18 @@ returns c =
     let b = c1 .before .args .b in
     let small : b < 256 = search needs in
     let e7 : Times a (b / 128) (c1 .step .result) = times-first _ _ _ _ (c1 .step .ensures) (omega arith) in
-    let e6 : Times a (b / 64) (c2 .step2 .result) = times-more _ _ _ _ _ _ (omega arith) (omega arith) (omega arith) e7 (c2 .step2 .ensures) in
-    let e5 : Times a (b / 32) (c3 .step3 .result) = times-more _ _ _ _ _ _ (omega arith) (omega arith) (omega arith) e6 (c3 .step3 .ensures) in
-    let e4 : Times a (b / 16) (c4 .step4 .result) = times-more _ _ _ _ _ _ (omega arith) (omega arith) (omega arith) e5 (c4 .step4 .ensures) in
-    let e3 : Times a (b / 8) (c5 .step5 .result) = times-more _ _ _ _ _ _ (omega arith) (omega arith) (omega arith) e4 (c5 .step5 .ensures) in
-    let e2 : Times a (b / 4) (c6 .step6 .result) = times-more _ _ _ _ _ _ (omega arith) (omega arith) (omega arith) e3 (c6 .step6 .ensures) in
-    let e1 : Times a (b / 2) (c7 .step7 .result) = times-more _ _ _ _ _ _ (omega arith) (omega arith) (omega arith) e2 (c7 .step7 .ensures) in
+    let e6 : Times a (b / 64) (c2 .step2 .result) =
+    times-more _ _ _ _ _ _ (omega arith) (omega arith) (omega arith) e7 (c2 .step2 .ensures) in
+    let e5 : Times a (b / 32) (c3 .step3 .result) =
+    times-more _ _ _ _ _ _ (omega arith) (omega arith) (omega arith) e6 (c3 .step3 .ensures) in
+    let e4 : Times a (b / 16) (c4 .step4 .result) =
+    times-more _ _ _ _ _ _ (omega arith) (omega arith) (omega arith) e5 (c4 .step4 .ensures) in
+    let e3 : Times a (b / 8) (c5 .step5 .result) =
+    times-more _ _ _ _ _ _ (omega arith) (omega arith) (omega arith) e4 (c5 .step5 .ensures) in
+    let e2 : Times a (b / 4) (c6 .step6 .result) =
+    times-more _ _ _ _ _ _ (omega arith) (omega arith) (omega arith) e3 (c6 .step6 .ensures) in
+    let e1 : Times a (b / 2) (c7 .step7 .result) =
+    times-more _ _ _ _ _ _ (omega arith) (omega arith) (omega arith) e2 (c7 .step7 .ensures) in
     times-more a _ b _ _ _ small (omega arith) (omega arith) e1 (c .step8 .ensures) ∙ ⊙-comm _ _
 
 pub multiply-spec : {M : Type 1} → statement M

@@ -15,7 +15,8 @@ use Rattle.kernel.proofs.row.add_multiple.Statement.{statement}
 use Rattle.kernel.proofs.row.add_multiple.Tie as tie
 
 abbrev Inv-loop : tie.InvT-loop
-Inv-loop row from to₀ i₀ to i = (i ≤ length to₀) × (length to ≡ length to₀) × (bytes to ≡ bytes to₀ ⊞ K (factor row) ⊠ cut i (bytes from))
+Inv-loop row from to₀ i₀ to i = (i ≤ length to₀) × (length to ≡ length to₀)
+    × (bytes to ≡ bytes to₀ ⊞ K (factor row) ⊠ cut i (bytes from))
 
 abbrev μ-loop : tie.MeasureT-loop
 μ-loop row from to₀ i₀ to i = length to₀ - i
@@ -34,8 +35,10 @@ wide-requires c κs = search needs
 
 shared-slice-read-to : tie.Need-shared-slice-read-to Inv-loop μ-loop
 shared-slice-read-to c =
-    let given = c .before .before .before .before .before .before .before .before .before in
-    omega (arith, c .before .wide .ensures .1, given .pre .0 .long)
+    let at-wide = c .before in
+    let at-loop = at-wide .before .before .before .before in
+    let given = at-loop .before .before .before .before in
+    omega (arith, at-wide .wide .ensures .1, given .pre .0 .long)
 
 slice-write-to : tie.Need-slice-write-to Inv-loop μ-loop
 slice-write-to c = search needs
@@ -48,9 +51,11 @@ loop-less c = search needs
 
 loop-again : tie.Need-loop-again Inv-loop μ-loop
 loop-again c =
-    let now = c .before .before .before .before .before .loop in
-    let given = c .before .before .before .before .before .before .before .before .before in
-    let index = c .before .wide in
+    let at-wide = c .before in
+    let at-loop = at-wide .before .before .before .before in
+    let given = at-loop .before .before .before .before in
+    let now = at-loop .loop in
+    let index = at-wide .wide in
     let row = given .args .row .now in
     let product =
     sym (read-at of 0 row (index .result))
@@ -67,10 +72,12 @@ same-length c = c .before .loop .inv .1
 
 returns : tie.Need-returns Inv-loop μ-loop
 returns c =
-    let end = c .before .loop in
-    let given = c .before .before .before .before .before in
+    let at-loop = c .before in
+    let given = at-loop .before .before .before .before in
+    let end = at-loop .loop in
     end .inv .2 ∙ ap (λ (f : Series). bytes (given .args .to .now) ⊞ K (factor (given .args .row .now)) ⊠ f)
-    (below-cut-eq (end .i) _ (below-weaken (length (given .args .from .now)) (end .i) _ (below-read of 0 of-zero _) (omega (arith, given .pre .1))))
+    (below-cut-eq (end .i) _ (below-weaken (length (given .args .from .now)) (end .i) _ (below-read of 0 of-zero _)
+    (omega (arith, given .pre .1))))
 
 pub add-multiple-spec : {M : Type 1} → statement M
 add-multiple-spec =

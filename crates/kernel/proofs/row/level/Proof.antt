@@ -13,7 +13,8 @@ use Rattle.kernel.proofs.row.level.Statement.{statement}
 use Rattle.kernel.proofs.row.level.Tie as tie
 
 abbrev Inv-loop : tie.InvT-loop
-Inv-loop top w row₀ x₀ row x = (x ≤ w) × (length row ≡ length row₀) × (bytes row ≡ bytes row₀ ⊞ zpow w ⊠ cut x (λ k. bytes row₀ k ⊕ of top))
+Inv-loop top w row₀ x₀ row x = (x ≤ w) × (length row ≡ length row₀)
+    × (bytes row ≡ bytes row₀ ⊞ zpow w ⊠ cut x (λ k. bytes row₀ k ⊕ of top))
 
 abbrev μ-loop : tie.MeasureT-loop
 μ-loop top w row₀ x₀ row x = w - x

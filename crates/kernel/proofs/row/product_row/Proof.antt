@@ -39,19 +39,25 @@ loop-less : tie.Need-loop-less Inv-loop μ-loop
 loop-less c =
     let tested = c .before .before .before .before in
     let now = tested .before .loop in
-    omega (arith, power-room (now .w) (now .inv .power) (omega (arith, tested .loop-test .taken)) .0, tested .loop-test .taken)
+    omega (
+      arith,
+      power-room (now .w) (now .inv .power) (omega (arith, tested .loop-test .taken)) .0,
+      tested .loop-test .taken,
+    )
 
 loop-again : tie.Need-loop-again Inv-loop μ-loop
 loop-again c =
     let tested = c .before .before .before .before in
-    level-more _ _ (tested .before .loop .inv) (omega (arith, tested .loop-test .taken)) (c .twice .ensures) (omega (arith, c .before .row2 .given))
+    level-more _ _ (tested .before .loop .inv) (omega (arith, tested .loop-test .taken)) (c .twice .ensures)
+    (omega (arith, c .before .row2 .given))
     (c .before .before .level .ensures)
 
 returns : tie.Need-returns Inv-loop μ-loop
 returns c =
     let end = c .before .loop in
     let e : end .w ≡ 256 = omega (arith, end .inv .power .most) in
-    end .inv .is ∙ ap (λ k. cut k (products (of (c .before .before .args .c .0)))) e ∙ ap (λ (a : F). cut 256 (products a)) (sym (val-of _))
+    end .inv .is ∙ ap (λ k. cut k (products (of (c .before .before .args .c .0)))) e
+    ∙ ap (λ (a : F). cut 256 (products a)) (sym (val-of _))
 
 pub product-row-spec : {M : Type 1} → statement M
 product-row-spec =

@@ -24,8 +24,11 @@ loop-holds : tie.Need-loop-holds Inv-loop μ-loop
 loop-holds c =
     let given = c .before .before .args in
     let n = length (given .word .now) in
-    let e : n - n ≡ 0 = omega arith in
-    (search needs, of-zero ∙ sym (ap (λ k. value k (drop n (bytes (given .word .now))) (factor (given .row .now))) e ∙ value-none _ _))
+    let e : n - n ≡ 0 = omega arith in (
+      search needs,
+      of-zero
+          ∙ sym (ap (λ k. value k (drop n (bytes (given .word .now))) (factor (given .row .now))) e ∙ value-none _ _),
+    )
 
 sub-i : tie.Need-sub-i Inv-loop μ-loop
 sub-i c = search needs
@@ -34,7 +37,10 @@ wide-requires : tie.Need-wide-requires Inv-loop μ-loop
 wide-requires c κs = search needs
 
 shared-slice-read-v : tie.Need-shared-slice-read-v Inv-loop μ-loop
-shared-slice-read-v c = omega (arith, c .before .wide .ensures .1, c .before .before .before .before .before .before .pre .long)
+shared-slice-read-v c =
+    let at-loop = c .before .before .before in
+    let given = at-loop .before .before .before in
+    omega (arith, c .before .wide .ensures .1, given .pre .long)
 
 shared-slice-read-v-2 : tie.Need-shared-slice-read-v-2 Inv-loop μ-loop
 shared-slice-read-v-2 c = search needs
@@ -44,8 +50,9 @@ loop-less c = search needs
 
 loop-again : tie.Need-loop-again Inv-loop μ-loop
 loop-again c =
-    let now = c .before .before .before .before .loop in
-    let given = c .before .before .before .before .before .before .before in
+    let at-loop = c .before .before .before .before in
+    let given = at-loop .before .before .before in
+    let now = at-loop .loop in
     let index = c .before .before .wide in
     let row = given .args .row .now in
     let product =

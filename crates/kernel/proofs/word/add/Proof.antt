@@ -14,7 +14,8 @@ use Rattle.kernel.proofs.word.add.Statement.{statement}
 use Rattle.kernel.proofs.word.add.Tie as tie
 
 abbrev Inv-loop : tie.InvT-loop
-Inv-loop from to₀ q₀ to q = (q ≤ length to₀) × (length to ≡ length to₀) × (bytes to ≡ bytes to₀ ⊞ K 𝟏 ⊠ cut q (bytes from))
+Inv-loop from to₀ q₀ to q = (q ≤ length to₀) × (length to ≡ length to₀)
+    × (bytes to ≡ bytes to₀ ⊞ K 𝟏 ⊠ cut q (bytes from))
 
 abbrev μ-loop : tie.MeasureT-loop
 μ-loop from to₀ q₀ to q = length to₀ - q
@@ -43,7 +44,8 @@ loop-again c =
     let term = sym (read-at of 0 _ _) ∙ sym (one-⊙ _) in (
       omega arith,
       length-set (now .to) _ _ ∙ now .inv .1,
-      multiple-more (now .to) (now .q) _ 𝟏 _ _ (omega arith) (now .inv .2) (bytes-xor (now .to) (now .q) _ ∙ ap (λ (s : F). bytes (now .to) (now .q) ⊕ s) term),
+      multiple-more (now .to) (now .q) _ 𝟏 _ _ (omega arith) (now .inv .2)
+          (bytes-xor (now .to) (now .q) _ ∙ ap (λ (s : F). bytes (now .to) (now .q) ⊕ s) term),
     )
 
 same-length : tie.Need-same-length Inv-loop μ-loop
@@ -53,7 +55,8 @@ returns : tie.Need-returns Inv-loop μ-loop
 returns c =
     let end = c .before .loop in
     let given = c .before .before in
-    let whole = below-cut-eq (end .q) _ (below-weaken (length (given .args .from .now)) (end .q) _ (below-read of 0 of-zero _) (omega (arith, given .pre))) in
+    let whole = below-cut-eq (end .q) _ (below-weaken (length (given .args .from .now)) (end .q) _
+    (below-read of 0 of-zero _) (omega (arith, given .pre))) in
     end .inv .2 ∙ ap (λ (f : Series). bytes (given .args .to .now) ⊞ f) (one-⊠ _ ∙ whole)
 
 pub add-spec : {M : Type 1} → statement M

@@ -38,7 +38,8 @@ loop-less c = search needs
 loop-again : tie.Need-loop-again Inv-loop μ-loop
 loop-again c =
     let now = c .before .before .loop in
-    filled-more _ (now .inv) (omega arith) (sym (tail-at _ _ ∙ ap (poly _) (sym (add-one _)) ∙ poly-at _ _ (omega arith)))
+    filled-more _ (now .inv) (omega arith)
+    (sym (tail-at _ _ ∙ ap (poly _) (sym (add-one _)) ∙ poly-at _ _ (omega arith)))
 
 returns : tie.Need-returns Inv-loop μ-loop
 returns c = poly-filled 48 (c .before .loop .inv) (c .loop-test .left) (below-tail 48 _ (below-poly _))

@@ -48,7 +48,8 @@ returns-2 : tie.Need-returns-2 Inv-loop μ-loop
 returns-2 c g b e =
     let end = c .before .loop in
     let made = c .before .before in
-    end .inv .1 ∙ reversed-sum _ _ _ g _ _ (omega arith) (made .before .if1 .left) (below-poly _) e (made .products .ensures)
+    end .inv .1
+    ∙ reversed-sum _ _ _ g _ _ (omega arith) (made .before .if1 .left) (below-poly _) e (made .products .ensures)
 
 pub convolve-reversed-spec : {M : Type 1} → statement M
 convolve-reversed-spec =

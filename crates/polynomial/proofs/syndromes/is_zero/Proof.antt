@@ -32,7 +32,8 @@ returns : tie.Need-returns Inv-loop μ-loop
 returns c =
     let now = c .before .before .before .before in
     let given = now .before .args in
-    sym (holds-no (zero? (given .t1)) (λ z. isZero-false _ (sym (c .before .is-zero .ensures) ∙ not-true _ (c .if1 .taken))
+    sym (holds-no (zero? (given .t1))
+    (λ z. isZero-false _ (sym (c .before .is-zero .ensures) ∙ not-true _ (c .if1 .taken))
     (sym (row-at (given .t1) (now .loop .i) (omega arith)) ∙ ap (λ (f : Series). f (now .loop .i)) z ∙ O-at _)))
 
 add-i : tie.Need-add-i Inv-loop μ-loop
@@ -47,7 +48,8 @@ loop-again c =
     let given = now .before .args in (
       omega arith,
       below-more _ (now .loop .i) (now .loop .inv .1)
-          (row-at (given .t1) (now .loop .i) (omega arith) ∙ isZero-true _ (sym (c .before .is-zero .ensures) ∙ not-false _ (c .if1 .left))),
+          (row-at (given .t1) (now .loop .i) (omega arith)
+          ∙ isZero-true _ (sym (c .before .is-zero .ensures) ∙ not-false _ (c .if1 .left))),
     )
 
 returns-2 : tie.Need-returns-2 Inv-loop μ-loop

@@ -49,7 +49,8 @@ loop-again c =
     (c .product .ensures ∙ sym (ap₂ _⊙_ (poly-at _ _ (omega arith)) (read-at _ _ _ _ ∙ sym (val-of _))))
 
 returns : tie.Need-returns Inv-loop μ-loop
-returns c = poly-filled _ (c .before .loop .inv) (c .loop-test .left) (below-products _ _ _ (c .before .before .extent .ensures .0))
+returns c = poly-filled _ (c .before .loop .inv) (c .loop-test .left)
+    (below-products _ _ _ (c .before .before .extent .ensures .0))
 
 pub products-spec : {M : Type 1} → statement M
 products-spec =

@@ -1,7 +1,5 @@
 -- Not asked, or answered by yes; else refused.
-use mathlib.Core.Path.{_≡_}
 use Rattle.profile.specs.Laws.{unless, meets}
-use borrow.Author.Needs.{needs}
 use Rattle.profile.proofs.questions.answered.Statement.{statement}
 use Rattle.profile.proofs.questions.answered.Tie as tie
 

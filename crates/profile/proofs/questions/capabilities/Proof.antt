@@ -26,7 +26,11 @@ returns-3 c =
     let y = c .before .before .before in
     let x = y .before .before .before in
     let p = x .before .before .args .p in
-    rw (le-leb 1 (p .t0) (x .if1 .left), sym (y .before .step .ensures) ∙ meets _ (y .if2 .left), sym (c .before .step2 .ensures) ∙ unless _ (c .if3 .taken))
+    rw (
+      le-leb 1 (p .t0) (x .if1 .left),
+      sym (y .before .step .ensures) ∙ meets _ (y .if2 .left),
+      sym (c .before .step2 .ensures) ∙ unless _ (c .if3 .taken),
+    )
 
 step-requires-3 : tie.Need-step-requires-3
 step-requires-3 c κs = search needs

@@ -42,17 +42,21 @@ product-requires-2 c κs = search needs
 
 returns : tie.Need-returns
 returns c =
-    let tops = c .before .before .before .before .before in
+    let at-value2 = c .before .before .before in
+    let tops = at-value2 .before .before in
     let made = tops .before .before in
-    let given = made .before .before .before .before in
+    let at-power = made .before in
+    let given = at-power .before .before .before in
     let top = given .args .numerator .now in
     let bottom = given .args .denominator .now in
-    let w = made .before .power .ensures ∙ sym (W-is (given .args .p) (given .pre)) in
+    let w = at-power .power .ensures ∙ sym (W-is (given .args .p) (given .pre)) in
     let factor-is = factor-products _ _ (made .product-row .ensures) ∙ w in
     c .product2 .ensures
     ∙ ap₂ _⊙_
-    (c .before .before .product .ensures ∙ ap₂ _⊙_ w (tops .value .ensures ∙ ap (value (length top) (bytes top)) factor-is))
-    (c .before .inverse .ensures ∙ ap inv (c .before .before .before .value2 .ensures ∙ ap (value (length bottom) (bytes bottom)) factor-is))
+    (c .before .before .product .ensures
+    ∙ ap₂ _⊙_ w (tops .value .ensures ∙ ap (value (length top) (bytes top)) factor-is))
+    (c .before .inverse .ensures
+    ∙ ap inv (at-value2 .value2 .ensures ∙ ap (value (length bottom) (bytes bottom)) factor-is))
 
 pub forney-spec : {M : Type 1} → statement M
 forney-spec =

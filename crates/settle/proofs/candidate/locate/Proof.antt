@@ -25,18 +25,25 @@ is-zero-requires-2 c κs = search needs
 
 locate-one-requires : tie.Need-locate-one-requires
 locate-one-requires c κs =
-    let f = c .before .before .before .before .before .before .before .before .args .t1 in (
+    let at-is-zero = c .before .before .before in
+    let at-if1 = at-is-zero .before .before .before in
+    let f = at-if1 .before .before .args .t1 in (
       omega arith,
       omega arith,
-      λ z. isZero-false _ (sym (c .before .before .before .is-zero .ensures) ∙ not-true _ (c .before .before .if2 .taken)) (sym (poly-at f 0 (omega arith)) ∙ z),
-      λ z. isZero-false _ (sym (c .before .is-zero2 .ensures) ∙ not-true _ (c .if3 .taken)) (sym (poly-at f 1 (omega arith)) ∙ z),
+      λ z. isZero-false _ (sym (at-is-zero .is-zero .ensures)
+          ∙ not-true _ (c .before .before .if2 .taken)) (sym (poly-at f 0 (omega arith)) ∙ z),
+      λ z. isZero-false _ (sym (c .before .is-zero2 .ensures) ∙ not-true _ (c .if3 .taken))
+          (sym (poly-at f 1 (omega arith)) ∙ z),
     )
 
 returns : tie.Need-returns
 returns c =
-    let given = c .before .before .before .before .before .before .before .before .before .args in
+    let at-if2 = c .before .before .before in
+    let at-if1 = at-if2 .before .before .before .before in
+    let given = at-if1 .before .before .args in
     let e : 1 ≡ given .roots = omega arith in
-    subst (λ l. Walked (given .n) (l + 1) l (poly (given .t1)) (bytes (given .numerator .now)) (c .locate-one .result .whole) (c .locate-one .result .pattern)) e (c .locate-one .ensures)
+    subst (λ l. Walked (given .n) (l + 1) l (poly (given .t1)) (bytes (given .numerator .now))
+    (c .locate-one .result .whole) (c .locate-one .result .pattern)) e (c .locate-one .ensures)
 
 walk-requires : tie.Need-walk-requires
 walk-requires c κs = search needs

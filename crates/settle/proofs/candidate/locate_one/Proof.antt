@@ -33,9 +33,11 @@ add-p c = omega (arith, log-small _ _ (c .before .before .log2 .ensures))
 returns : tie.Need-returns
 returns c =
     let logs = c .before .before .before in
-    let given = logs .before .before .before .before .before in
+    let at-log = logs .before in
+    let given = at-log .before .before .before .before in
     let f = given .args .t1 in
-    let place = one-place _ _ _ _ (given .pre .2) (given .pre .3) (logs .before .log .ensures ∙ ap log (sym (poly-at f 0 (omega arith)))) (logs .log2 .ensures ∙ ap log (sym (poly-at f 1 (omega arith)))) in
+    let place = one-place _ _ _ _ (given .pre .2) (given .pre .3) (at-log .log .ensures
+    ∙ ap log (sym (poly-at f 0 (omega arith)))) (logs .log2 .ensures ∙ ap log (sym (poly-at f 1 (omega arith)))) in
     one-none _ _ _ (omega arith) (given .pre .2) place _ (omega arith)
 
 sub-t18 : tie.Need-sub-t18
@@ -60,14 +62,18 @@ returns-2 : tie.Need-returns-2
 returns-2 c =
     let at = c .before .before .before in
     let logs = at .before .before .before .before in
-    let given = logs .before .before .before .before .before in
+    let at-log = logs .before in
+    let given = at-log .before .before .before .before in
     let f = given .args .t1 in
     let word = given .args .numerator .now in
     let second = sym (poly-at f 1 (omega arith)) in
-    let place = one-place _ _ _ _ (given .pre .2) (given .pre .3) (logs .before .log .ensures ∙ ap log (sym (poly-at f 0 (omega arith)))) (logs .log2 .ensures ∙ ap log second) in
-    one-found _ _ _ (omega arith) (given .pre .2) place _ (length word) _ _ (omega arith) (below-read of 0 of-zero _) (given .pre .1) (given .pre .3)
+    let place = one-place _ _ _ _ (given .pre .2) (given .pre .3)
+    (at-log .log .ensures ∙ ap log (sym (poly-at f 0 (omega arith)))) (logs .log2 .ensures ∙ ap log second) in
+    one-found _ _ _ (omega arith) (given .pre .2) place _ (length word) _ _ (omega arith) (below-read of 0 of-zero _)
+    (given .pre .1) (given .pre .3)
     (c .product .ensures
-    ∙ ap₂ _⊙_ (c .before .before .short-value .ensures ∙ ap (value (length word) (bytes word)) (at .power .ensures ∙ sym (W-is _ (omega arith)))) (c .before .inverse .ensures))
+    ∙ ap₂ _⊙_ (c .before .before .short-value .ensures ∙ ap (value (length word) (bytes word))
+    (at .power .ensures ∙ sym (W-is _ (omega arith)))) (c .before .inverse .ensures))
     second
 
 pub locate-one-spec : {M : Type 1} → statement M

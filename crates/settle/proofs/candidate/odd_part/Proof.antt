@@ -41,7 +41,8 @@ loop-again c =
       omega arith,
       omega arith,
       length-set (now .out) _ _ ∙ now .inv .2,
-      odds-more (now .i) _ (poly f) (now .out) (now .inv .0) (omega arith) (now .inv .3) (sym (poly-at f (now .i) (omega arith) ∙ val-of _)),
+      odds-more (now .i) _ (poly f) (now .out) (now .inv .0) (omega arith) (now .inv .3)
+          (sym (poly-at f (now .i) (omega arith) ∙ val-of _)),
     )
 
 returns : tie.Need-returns Inv-loop μ-loop

@@ -22,8 +22,10 @@ loop-holds : tie.Need-loop-holds Inv-loop μ-loop
 loop-holds c =
     let given = c .before .args in
     let n = length (given .word .now) in
-    let e : n - n ≡ 0 = omega arith in
-    (search needs, of-zero ∙ sym (ap (λ k. value k (drop n (bytes (given .word .now))) (val (given .w))) e ∙ value-none _ _))
+    let e : n - n ≡ 0 = omega arith in (
+      search needs,
+      of-zero ∙ sym (ap (λ k. value k (drop n (bytes (given .word .now))) (val (given .w))) e ∙ value-none _ _),
+    )
 
 sub-i : tie.Need-sub-i Inv-loop μ-loop
 sub-i c = search needs
@@ -39,11 +41,13 @@ loop-less c = search needs
 
 loop-again : tie.Need-loop-again Inv-loop μ-loop
 loop-again c =
-    let now = c .before .before .before .loop in
-    let given = c .before .before .before .before .before .args in (
+    let at-loop = c .before .before .before in
+    let now = at-loop .loop in
+    let given = at-loop .before .before .args in (
       omega arith,
       of-xor _ _
-          ∙ ap₂ _⊕_ (c .before .multiply .ensures ∙ ap₂ _⊙_ (sym (val-of (given .w))) (now .inv .1)) (sym (read-at of 0 _ _))
+          ∙ ap₂ _⊕_ (c .before .multiply .ensures ∙ ap₂ _⊙_ (sym (val-of (given .w))) (now .inv .1))
+          (sym (read-at of 0 _ _))
           ∙ sym (value-horner _ _ _ (now .i) (omega arith) (now .inv .0)),
     )
 

@@ -12,14 +12,16 @@ use Rattle.series.specs.Value.{value, odd}
 use Rattle.series.specs.Array.{bytes, read-at, below-read}
 use Rattle.settling.specs.Locator.{W}
 use Rattle.settle.specs.CandidateOdd.{odds-value}
-use Rattle.settle.specs.CandidateLocated.{Walking, walking-start, walking-root, walking-other, walked-all, walked-few}
+use Rattle.settle.specs.CandidateLocated.{Walking, walking-start, walking-root}
+use Rattle.settle.specs.CandidateLocated.{walking-other, walked-all, walked-few}
 use borrow.Author.Needs.{needs}
 use Rattle.settle.proofs.candidate.walk.Statement.{statement}
 use Rattle.settle.proofs.candidate.walk.Tie as tie
 
 abbrev Inv-loop : tie.InvT-loop
 Inv-loop numerator roots n k values odds pattern₀ missing₀ p₀ pattern missing p =
-    (p ≤ n) × ((Λ : Series) → bytes values ≡ cut 255 (λ q. value k Λ (W q)) → bytes odds ≡ cut k (odd Λ) → Walking k roots Λ (bytes numerator) p missing pattern)
+    (p ≤ n) × ((Λ : Series) → bytes values ≡ cut 255 (λ q. value k Λ (W q)) → bytes odds ≡ cut k (odd Λ)
+    → Walking k roots Λ (bytes numerator) p missing pattern)
 
 abbrev μ-loop : tie.MeasureT-loop
 μ-loop numerator roots n k values odds pattern₀ missing₀ p₀ pattern missing p = 255 - p
@@ -42,7 +44,8 @@ sub-if1 c = search needs
 returns : tie.Need-returns Inv-loop μ-loop
 returns c =
     let now = c .before .before .loop in
-    walked-few (now .inv .1 _ (c .before .before .before .before .values .ensures) (c .before .before .before .odd-part .ensures)) _ (now .inv .0) (omega arith)
+    walked-few (now .inv .1 _ (c .before .before .before .before .values .ensures)
+    (c .before .before .before .odd-part .ensures)) _ (now .inv .0) (omega arith)
 
 array-read-t20 : tie.Need-array-read-t20 Inv-loop μ-loop
 array-read-t20 c = search needs
@@ -54,7 +57,10 @@ array-share-prefix-odds : tie.Need-array-share-prefix-odds Inv-loop μ-loop
 array-share-prefix-odds c = search needs
 
 slice-aggregate-forney : tie.Need-slice-aggregate-forney Inv-loop μ-loop
-slice-aggregate-forney c = sym (length-take-le _ (c .before .before .before .before .before .before .odd-part .result) (omega arith))
+slice-aggregate-forney c =
+    let at-loop-test = c .before .before .before .before in
+    let at-odd-part = at-loop-test .before .before in
+    sym (length-take-le _ (at-odd-part .odd-part .result) (omega arith))
 
 forney-requires : tie.Need-forney-requires Inv-loop μ-loop
 forney-requires c κs = search needs
@@ -73,16 +79,20 @@ loop-less c = search needs
 
 loop-again : tie.Need-loop-again Inv-loop μ-loop
 loop-again c =
-    let now = c .before .before .before .before .loop in
-    let made = c .before .before .before .before .before .odd-part .result in
-    let given = c .before .before .before .before .before .before .before .before in
+    let at-loop = c .before .before .before .before in
+    let at-odd-part = at-loop .before in
+    let given = at-odd-part .before .before .before in
+    let now = at-loop .loop in
+    let made = at-odd-part .odd-part .result in
     let test = sym (c .before .is-zero .ensures) in (
       omega arith,
       λ Λ is odd-is.
           let at = now .inv .1 Λ is odd-is in
-          let here = sym (cut-low 255 _ (now .p) (omega arith)) ∙ ap (λ (f : Series). f (now .p)) (sym is) ∙ read-at of 0 _ (now .p) ∙ sym (val-of _) in
+          let here = sym (cut-low 255 _ (now .p) (omega arith)) ∙ ap (λ (f : Series). f (now .p)) (sym is)
+          ∙ read-at of 0 _ (now .p) ∙ sym (val-of _) in
           ⊎-elim
-          (λ w. walking-root at (length (given .args .numerator .now)) _ _ _ _ (here ∙ isZero-true _ (test ∙ w .0 .taken)) (below-read of 0 of-zero _) (given .pre .2) (omega arith) (omega arith)
+          (λ w. walking-root at (length (given .args .numerator .now)) _ _ _ _ (here
+          ∙ isZero-true _ (test ∙ w .0 .taken)) (below-read of 0 of-zero _) (given .pre .2) (omega arith) (omega arith)
           (w .2 .ensures) (odds-value _ Λ made _ (omega arith) odd-is) (w .3) (w .4))
           (λ w. walking-other at _ _ (λ z. isZero-false _ (test ∙ w .0 .left) (sym here ∙ z)) (w .1) (w .2))
           (c .if2 .came),
@@ -91,7 +101,8 @@ loop-again c =
 returns-2 : tie.Need-returns-2 Inv-loop μ-loop
 returns-2 c =
     let end = c .before .loop in
-    walked-all (end .inv .1 _ (c .before .before .before .values .ensures) (c .before .before .odd-part .ensures)) _ (end .inv .0) (omega arith)
+    walked-all (end .inv .1 _ (c .before .before .before .values .ensures) (c .before .before .odd-part .ensures)) _
+    (end .inv .0) (omega arith)
 
 pub walk-spec : {M : Type 1} → statement M
 walk-spec =

@@ -16,7 +16,8 @@ use Rattle.settle.proofs.check.add_change.Tie as tie
 
 abbrev Inv-loop : tie.InvT-loop
 Inv-loop power p m to₀ e₀ j₀ to e j =
-    (j ≤ m) × (length to ≡ length to₀) × (e < 255) × (pow α e ≡ pow α e₀ ⊙ pow (X p) j) × (bytes to ≡ bytes to₀ ⊞ K (pow α e₀) ⊠ cut j (pow (X p)))
+    (j ≤ m) × (length to ≡ length to₀) × (e < 255) × (pow α e ≡ pow α e₀ ⊙ pow (X p) j)
+    × (bytes to ≡ bytes to₀ ⊞ K (pow α e₀) ⊠ cut j (pow (X p)))
 
 abbrev μ-loop : tie.MeasureT-loop
 μ-loop power p m to₀ e₀ j₀ to e j = m - j
@@ -30,7 +31,13 @@ exponent-requires c κs =
     (omega (arith, c .log .ensures, log-lt (val (given .args .y))), given .pre .1)
 
 loop-holds : tie.Need-loop-holds Inv-loop μ-loop
-loop-holds c = (search needs, refl, omega (arith, c .exponent .ensures), sym (ap (λ t. pow α (c .exponent .result) ⊙ t) (pow-zero _) ∙ ⊙-one _), multiple-none _ _ _)
+loop-holds c = (
+  search needs,
+  refl,
+  omega (arith, c .exponent .ensures),
+  sym (ap (λ t. pow α (c .exponent .result) ⊙ t) (pow-zero _) ∙ ⊙-one _),
+  multiple-none _ _ _,
+)
 
 slice-read-to : tie.Need-slice-read-to Inv-loop μ-loop
 slice-read-to c = search needs
@@ -52,15 +59,17 @@ loop-less c = search needs
 
 loop-again : tie.Need-loop-again Inv-loop μ-loop
 loop-again c =
-    let now = c .before .before .before .before .loop in
-    let given = c .before .before .before .before .before .before .before .before in
+    let at-loop = c .before .before .before .before in
+    let given = at-loop .before .before .before .before in
+    let now = at-loop .loop in
     let is = c .exponent2 .ensures in (
       omega arith,
       length-set (now .to) _ _ ∙ now .inv .1,
       omega (arith, is),
       next-exponent (now .e) _ _ (now .j) _ is (now .inv .3),
       multiple-more (now .to) (now .j) _ _ _ _ (omega arith) (now .inv .4)
-          (bytes-xor (now .to) (now .j) _ ∙ ap (λ (s : F). bytes (now .to) (now .j) ⊕ s) (given .pre .0 (now .e) (now .inv .2) ∙ now .inv .3)),
+          (bytes-xor (now .to) (now .j) _
+          ∙ ap (λ (s : F). bytes (now .to) (now .j) ⊕ s) (given .pre .0 (now .e) (now .inv .2) ∙ now .inv .3)),
     )
 
 same-length : tie.Need-same-length Inv-loop μ-loop
@@ -74,7 +83,8 @@ returns c =
     let x = given .args in
     let e : end .j ≡ x .m = omega arith in
     let first = first-exponent _ _ _ _ (given .pre .2) (start .before .log .ensures) (start .exponent .ensures) in
-    (rw e at (end .inv .4)) ∙ ap (λ (f : Series). bytes (x .to .now) ⊞ f) (ap (λ (a : F). K a ⊠ cut (x .m) (pow (X (x .p)))) first ∙ change-is _ _ _)
+    (rw e at (end .inv .4)) ∙ ap (λ (f : Series). bytes (x .to .now) ⊞ f)
+    (ap (λ (a : F). K a ⊠ cut (x .m) (pow (X (x .p)))) first ∙ change-is _ _ _)
 
 pub add-change-spec : {M : Type 1} → statement M
 add-change-spec =

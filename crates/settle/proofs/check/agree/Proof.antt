@@ -32,11 +32,13 @@ array-read-if1 c = search needs
 
 returns : tie.Need-returns Inv-loop μ-loop
 returns c =
-    let given = c .before .before .before .before .before .args in
-    let i = c .before .before .before .before .loop .i in
+    let at-loop = c .before .before .before .before in
+    let given = at-loop .before .args in
+    let i = at-loop .loop .i in
     let small : Fits w8 (getD (given .t1) i 0) = search needs in
     sym (holds-no (same? (given .m) (bytes (given .t1)) (Row (given .t2)))
-    (λ all. c .if1 .taken (of-inj _ _ (small .fits) (search needs) (sym (read-at of 0 _ _) ∙ all i (omega arith) ∙ rw (row-values (given .t2) (search needs)) (read-at _ _ _ _ ∙ val-of _)))))
+    (λ all. c .if1 .taken (of-inj _ _ (small .fits) (search needs) (sym (read-at of 0 _ _) ∙ all i (omega arith)
+    ∙ rw (row-values (given .t2) (search needs)) (read-at _ _ _ _ ∙ val-of _)))))
 
 add-i : tie.Need-add-i Inv-loop μ-loop
 add-i c = search needs
@@ -46,11 +48,13 @@ loop-less c = search needs
 
 loop-again : tie.Need-loop-again Inv-loop μ-loop
 loop-again c =
-    let given = c .before .before .before .before .before .args in
-    let now = c .before .before .before .before .loop in (
+    let at-loop = c .before .before .before .before in
+    let given = at-loop .before .args in
+    let now = at-loop .loop in (
       omega arith,
       below-more _ (now .i) (now .inv .1)
-          (read-at of 0 _ _ ∙ ap of (c .if1 .left) ∙ sym (rw (row-values (given .t2) (search needs)) (read-at _ _ _ _ ∙ val-of _))),
+          (read-at of 0 _ _ ∙ ap of (c .if1 .left)
+          ∙ sym (rw (row-values (given .t2) (search needs)) (read-at _ _ _ _ ∙ val-of _))),
     )
 
 returns-2 : tie.Need-returns-2 Inv-loop μ-loop

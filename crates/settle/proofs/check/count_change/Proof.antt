@@ -32,8 +32,10 @@ same-length c = search needs
 returns-2 : tie.Need-returns-2
 returns-2 c =
     let arm = c .before .before .before .before in
-    let y = val (arm .before .before .before .args .y) in
-    (add-one _ ∙ sym (if-neg (y ≟ 𝟎) (isZero-false y (sym (arm .before .is-zero .ensures) ∙ arm .if1 .left)) _ _), c .before .before .add-change .ensures)
+    let y = val (arm .before .before .before .args .y) in (
+      add-one _ ∙ sym (if-neg (y ≟ 𝟎) (isZero-false y (sym (arm .before .is-zero .ensures) ∙ arm .if1 .left)) _ _),
+      c .before .before .add-change .ensures,
+    )
 
 pub count-change-spec : {M : Type 1} → statement M
 count-change-spec =

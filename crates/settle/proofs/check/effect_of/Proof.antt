@@ -13,7 +13,8 @@ use Rattle.settle.proofs.check.effect_of.Statement.{statement}
 use Rattle.settle.proofs.check.effect_of.Tie as tie
 
 abbrev Inv-loop : tie.InvT-loop
-Inv-loop n m pattern power syndromes₀ count₀ p₀ syndromes count p = (p ≤ n) × (length syndromes ≡ 48) × (count ≡ weight p (values pattern)) × (bytes syndromes ≡ cut m (syndrome p (values pattern)))
+Inv-loop n m pattern power syndromes₀ count₀ p₀ syndromes count p = (p ≤ n) × (length syndromes ≡ 48)
+    × (count ≡ weight p (values pattern)) × (bytes syndromes ≡ cut m (syndrome p (values pattern)))
 
 abbrev μ-loop : tie.MeasureT-loop
 μ-loop n m pattern power syndromes₀ count₀ p₀ syndromes count p = n - p
@@ -32,9 +33,15 @@ slice-aggregate-count-change c = search needs
 
 count-change-requires : tie.Need-count-change-requires Inv-loop μ-loop
 count-change-requires c κs =
-    let start = c .before .before .before .before .before in
-    let now = c .before .before .before .before .loop in
-    (start .powers .ensures, omega (arith, weight-le (now .p) (values (start .before .args .t1)), now .inv .2), omega arith, omega arith)
+    let at-loop = c .before .before .before .before in
+    let start = at-loop .before in
+    let given = start .before in
+    let now = at-loop .loop in (
+      start .powers .ensures,
+      omega (arith, weight-le (now .p) (values (given .args .t1)), now .inv .2),
+      omega arith,
+      omega arith,
+    )
 
 add-p : tie.Need-add-p Inv-loop μ-loop
 add-p c = search needs
@@ -44,7 +51,8 @@ loop-less c = search needs
 
 loop-again : tie.Need-loop-again Inv-loop μ-loop
 loop-again c =
-    let now = c .before .before .before .before .before .before .loop in
+    let at-power = c .before .before .before .before in
+    let now = at-power .before .before .loop in
     let changed = c .before .count-change in (
       omega arith,
       omega (arith, c .syndromes2 .given),

@@ -3,7 +3,7 @@ use Prim.Native.Nat.{_+_, _-_, _≤_}
 use mathlib.Core.Path.{_≡_, refl, sym, ap, ap₂, _∙_}
 use native.Mathlib.Omega.{arith}
 use lib.ListN.{length, length-set}
-use Rattle.field.specs.Field.{F, _⊕_, _⊙_, of, val, val-of, ⊙-comm}
+use Rattle.field.specs.Field.{F, _⊕_, _⊙_, val, val-of, ⊙-comm}
 use Rattle.series.specs.Series.{K, _⊞_, _⊠_, K-⊠-at}
 use Rattle.series.specs.Shift.{zpow, cut}
 use Rattle.series.specs.Array.{bytes}
@@ -14,7 +14,8 @@ use Rattle.settle.proofs.numerator.add_term.Statement.{statement}
 use Rattle.settle.proofs.numerator.add_term.Tie as tie
 
 abbrev Inv-loop : tie.InvT-loop
-Inv-loop c a to₀ row j₀ to j = (j ≤ 32) × (length to ≡ length to₀) × (bytes to ≡ bytes to₀ ⊞ zpow a ⊠ cut j (K (val c) ⊠ Row row))
+Inv-loop c a to₀ row j₀ to j = (j ≤ 32) × (length to ≡ length to₀)
+    × (bytes to ≡ bytes to₀ ⊞ zpow a ⊠ cut j (K (val c) ⊠ Row row))
 
 abbrev μ-loop : tie.MeasureT-loop
 μ-loop c a to₀ row j₀ to j = 32 - j
@@ -45,13 +46,16 @@ loop-less c = search needs
 
 loop-again : tie.Need-loop-again Inv-loop μ-loop
 loop-again c =
-    let now = c .before .before .before .before .loop in
-    let given = c .before .before .before .before .before .before .args in
-    let product = c .multiply .ensures ∙ ap₂ _⊙_ (sym (row-at (given .t3) (now .j) (omega arith) ∙ val-of _)) (sym (val-of (given .c))) ∙ ⊙-comm _ _ in (
+    let at-loop = c .before .before .before .before in
+    let now = at-loop .loop in
+    let given = at-loop .before .before .args in
+    let product = c .multiply .ensures
+    ∙ ap₂ _⊙_ (sym (row-at (given .t3) (now .j) (omega arith) ∙ val-of _)) (sym (val-of (given .c))) ∙ ⊙-comm _ _ in (
       omega arith,
       length-set (now .to) _ _ ∙ now .inv .1,
       add-more (now .to) (given .a) (now .j) _ _ _ (omega arith) (now .inv .2)
-          (bytes-xor (now .to) _ _ ∙ ap (λ (s : F). bytes (now .to) (given .a + now .j) ⊕ s) (product ∙ sym (K-⊠-at _ _ (now .j)))),
+          (bytes-xor (now .to) _ _
+          ∙ ap (λ (s : F). bytes (now .to) (given .a + now .j) ⊕ s) (product ∙ sym (K-⊠-at _ _ (now .j)))),
     )
 
 same-length : tie.Need-same-length Inv-loop μ-loop

@@ -13,7 +13,8 @@ use Rattle.settle.proofs.numerator.numerator.Statement.{statement}
 use Rattle.settle.proofs.numerator.numerator.Tie as tie
 
 abbrev Inv-loop : tie.InvT-loop
-Inv-loop row m locator sum₀ i₀ sum i = (i ≤ m) × (length sum ≡ 57) × (bytes sum ≡ cut i (poly locator) ⊠ cut 32 (Row row))
+Inv-loop row m locator sum₀ i₀ sum i = (i ≤ m) × (length sum ≡ 57)
+    × (bytes sum ≡ cut i (poly locator) ⊠ cut 32 (Row row))
 
 abbrev μ-loop : tie.MeasureT-loop
 μ-loop row m locator sum₀ i₀ sum i = m - i
@@ -38,11 +39,14 @@ loop-less c = search needs
 
 loop-again : tie.Need-loop-again Inv-loop μ-loop
 loop-again c =
-    let now = c .before .before .before .before .before .loop in
-    let locator = c .before .before .before .before .before .before .args .t1 in (
+    let at-add-term = c .before in
+    let at-loop = at-add-term .before .before .before .before in
+    let now = at-loop .loop in
+    let locator = at-loop .before .args .t1 in (
       omega arith,
       omega (arith, c .sum2 .given),
-      product-more (now .i) _ _ _ _ _ (now .inv .2) (c .before .add-term .ensures) (sym (poly-at locator (now .i) (omega arith))),
+      product-more (now .i) _ _ _ _ _ (now .inv .2) (at-add-term .add-term .ensures)
+          (sym (poly-at locator (now .i) (omega arith))),
     )
 
 slice-aggregate-first-bytes : tie.Need-slice-aggregate-first-bytes Inv-loop μ-loop

@@ -14,7 +14,9 @@ returns : tie.Need-returns
 returns c = let given = c .before .args in back-less (given .e) (given .s) (c .if1 .taken) (search needs)
 
 returns-2 : tie.Need-returns-2
-returns-2 c = let given = c .before .args in back-more (given .e) (given .s) (c .if1 .left) (search needs) (c .before .pre)
+returns-2 c =
+    let given = c .before .args in
+    back-more (given .e) (given .s) (c .if1 .left) (search needs) (c .before .pre)
 
 pub back-spec : {M : Type 1} → statement M
 back-spec = tie.close (tie.spec sub-result sub-result-2 returns returns-2)

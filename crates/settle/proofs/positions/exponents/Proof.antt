@@ -41,7 +41,8 @@ loop-again c =
     let f = c .before .before .before .before .args .t1 in (
       omega arith,
       length-set (now .out) _ _ ∙ now .inv .1,
-      read-store symbol 255 (now .out) (now .i) _ _ (omega arith) (now .inv .2) (c .exponent .ensures ∙ sym (poly-at f (now .i) (omega arith))),
+      read-store symbol 255 (now .out) (now .i) _ _ (omega arith) (now .inv .2)
+          (c .exponent .ensures ∙ sym (poly-at f (now .i) (omega arith))),
     )
 
 returns : tie.Need-returns Inv-loop μ-loop

@@ -54,7 +54,8 @@ loop-again c =
       length-set (now .out) _ _ ∙ now .inv .1,
       read-store symbol 255 (now .out) (now .i) _ _ (omega arith) (now .inv .2)
           (step-term (symbols e) (given .args .t2) (now .i) _ (given .pre) (omega arith)
-          (c .back .ensures ∙ ap (λ y. y ⊙ W (getD (given .args .t2) (now .i) 0)) (sym (symbols-at e (now .i) (omega (arith, long)))))),
+          (c .back .ensures
+          ∙ ap (λ y. y ⊙ W (getD (given .args .t2) (now .i) 0)) (sym (symbols-at e (now .i) (omega (arith, long)))))),
     )
 
 returns : tie.Need-returns Inv-loop μ-loop
@@ -63,7 +64,8 @@ returns c =
     let e = c .before .before .args .t1 in
     let long : length e ≡ 32 = search needs in
     let all : end .i ≡ 32 = omega arith in
-    (rw all at (end .inv .2)) ∙ below-cut-eq 32 _ (below-terms 32 (W 1) (symbols e) (rw long at (below-read symbol 255 symbol-none e)))
+    (rw all at (end .inv .2))
+    ∙ below-cut-eq 32 _ (below-terms 32 (W 1) (symbols e) (rw long at (below-read symbol 255 symbol-none e)))
 
 pub next-spec : {M : Type 1} → statement M
 next-spec =

@@ -20,16 +20,21 @@ element-copy-out-c c = search needs
 
 returns : tie.Need-returns
 returns c =
-    let third = c .before .before .before .before .before .before .before in
+    let at-struct-known2 = c .before .before .before .before in
+    let third = at-struct-known2 .before .before .before in
     let second = third .before .before in
     let given = second .before in
     let s = given .args .s in
     let row = given .args .row .now in
-    let b = product-at row _ (s .b) _ (given .pre .0) (given .pre .1) (second .wide .ensures .0) (second .wide .ensures .1) in
-    let d = product-at row _ (s .c) _ (given .pre .0) (given .pre .1) (third .wide2 .ensures .0) (third .wide2 .ensures .1) in (
+    let b =
+    product-at row _ (s .b) _ (given .pre .0) (given .pre .1) (second .wide .ensures .0) (second .wide .ensures .1) in
+    let d =
+    product-at row _ (s .c) _ (given .pre .0) (given .pre .1) (third .wide2 .ensures .0) (third .wide2 .ensures .1) in (
       of-xor _ _ ∙ ap (λ t. t ⊕ of (s .c)) (of-xor _ _) ∙ spread-zero _ _ _,
-      of-xor _ _ ∙ ap (λ t. t ⊕ of (s .c)) (of-xor _ _ ∙ ap₂ _⊕_ (of-xor _ _ ∙ ap (λ t. of (s .a) ⊕ t) b) d) ∙ spread-one _ _ _,
-      of-xor _ _ ∙ ap₂ _⊕_ (of-xor _ _ ∙ ap (λ t. t ⊕ of (s .b)) (of-xor _ _ ∙ ap (λ t. of (s .a) ⊕ t) b)) d ∙ spread-two _ _ _,
+      of-xor _ _ ∙ ap (λ t. t ⊕ of (s .c)) (of-xor _ _ ∙ ap₂ _⊕_ (of-xor _ _ ∙ ap (λ t. of (s .a) ⊕ t) b) d)
+          ∙ spread-one _ _ _,
+      of-xor _ _ ∙ ap₂ _⊕_ (of-xor _ _ ∙ ap (λ t. t ⊕ of (s .b)) (of-xor _ _ ∙ ap (λ t. of (s .a) ⊕ t) b)) d
+          ∙ spread-two _ _ _,
     )
 
 pub spread-spec : {M : Type 1} → statement M

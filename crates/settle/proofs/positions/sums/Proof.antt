@@ -21,7 +21,13 @@ abbrev μ-loop : tie.MeasureT-loop
 μ-loop power e k a₀ b₀ c₀ i₀ a b c i = k + 2 - i
 
 loop-holds : tie.Need-loop-holds Inv-loop μ-loop
-loop-holds c = (search needs, search needs, of-zero ∙ sym (third-none 0 _), of-zero ∙ sym (third-none 1 _), of-zero ∙ sym (third-none 2 _))
+loop-holds c = (
+  search needs,
+  search needs,
+  of-zero ∙ sym (third-none 0 _),
+  of-zero ∙ sym (third-none 1 _),
+  of-zero ∙ sym (third-none 2 _),
+)
 
 term-requires : tie.Need-term-requires Inv-loop μ-loop
 term-requires c κs = (c .before .before .pre .0, c .before .before .pre .1, omega arith)
@@ -36,7 +42,8 @@ add-term-2 : tie.Need-add-term-2 Inv-loop μ-loop
 add-term-2 c = search needs
 
 term-requires-3 : tie.Need-term-requires-3 Inv-loop μ-loop
-term-requires-3 c κs = (c .before .before .before .before .pre .0, c .before .before .before .before .pre .1, omega arith)
+term-requires-3 c κs =
+    (c .before .before .before .before .pre .0, c .before .before .before .before .pre .1, omega arith)
 
 add-i : tie.Need-add-i Inv-loop μ-loop
 add-i c = search needs
@@ -50,8 +57,10 @@ loop-again c =
     let three = now .inv .0 in (
       omega arith,
       omega arith,
-      of-xor _ _ ∙ ap₂ _⊕_ (now .inv .2) (c .before .before .term .ensures) ∙ sym (third-more 0 (now .i) _ _ three (omega arith)),
-      of-xor _ _ ∙ ap₂ _⊕_ (now .inv .3) (c .before .term2 .ensures) ∙ sym (third-more 1 (now .i) _ _ three (omega arith)),
+      of-xor _ _ ∙ ap₂ _⊕_ (now .inv .2) (c .before .before .term .ensures)
+          ∙ sym (third-more 0 (now .i) _ _ three (omega arith)),
+      of-xor _ _ ∙ ap₂ _⊕_ (now .inv .3) (c .before .term2 .ensures)
+          ∙ sym (third-more 1 (now .i) _ _ three (omega arith)),
       of-xor _ _ ∙ ap₂ _⊕_ (now .inv .4) (c .term3 .ensures) ∙ sym (third-more 2 (now .i) _ _ three (omega arith)),
     )
 
@@ -61,7 +70,8 @@ returns c =
     let given = c .before .before in
     let f = symbols (given .args .e .now) in
     let all : (a : ℕ) → third a (end .i / 3) f ≡ third a 9 f =
-    λ a. sym (third-all a (given .args .k) (end .i) f (given .pre .3) (c .loop-test .left) (end .inv .0) (end .inv .1)) in
+    λ a.
+    sym (third-all a (given .args .k) (end .i) f (given .pre .3) (c .loop-test .left) (end .inv .0) (end .inv .1)) in
     (end .inv .2 ∙ all 0, end .inv .3 ∙ all 1, end .inv .4 ∙ all 2)
 
 pub sums-spec : {M : Type 1} → statement M

@@ -10,7 +10,8 @@ use Rattle.kernel.specs.ProductRow.{row-products, factor-products}
 use Rattle.settling.specs.Locator.{W, W-is}
 use Rattle.settle.specs.PositionsTerm.{W-nonzero, terms, below-terms, terms-first, terms-add}
 use Rattle.settle.specs.PositionsExponent.{symbols, table-set, steps-terms}
-use Rattle.settle.specs.PositionsThird.{three, value-three, cube-zero, cube-one, cube-two, Placed, placed-none, placed-more, placed-all}
+use Rattle.settle.specs.PositionsThird.{three, value-three, cube-zero, cube-one, cube-two, Placed}
+use Rattle.settle.specs.PositionsThird.{placed-none, placed-more, placed-all}
 use borrow.Author.Needs.{needs}
 use Rattle.settle.proofs.positions.values.Statement.{statement}
 use Rattle.settle.proofs.positions.values.Tie as tie
@@ -45,21 +46,27 @@ loop-holds c = (search needs, search needs, terms-first _, placed-none _ _ (sear
 
 sums-requires : tie.Need-sums-requires Inv-loop μ-loop
 sums-requires c κs =
-    let now = c .before .before .before .loop in
-    let made = c .before .before .before .before .before in
+    let at-loop = c .before .before .before in
+    let made = at-loop .before .before in
     let table = made .before .before .before in
-    let k = table .before .args .k in (
+    let given = table .before in
+    let now = at-loop .loop in
+    let k = given .args .k in (
       table-set (table .powers .result) (search needs) (table .powers .ensures),
       now .inv .1,
-      table .before .pre,
+      given .pre,
       rw (now .inv .2) (below-terms k (W (now .p)) _ (rw (made .exponents .ensures) (below-cut k _))),
     )
 
 spread-requires : tie.Need-spread-requires Inv-loop μ-loop
 spread-requires c κs =
-    let made = c .before .before .before .before .before .before .before .before in
-    let row = made .product-row .ensures in
-    (row-products _ _ (search needs) row, factor-products _ _ row ∙ made .before .power .ensures ∙ sym (W-is 85 (omega arith)))
+    let at-loop-test = c .before .before .before .before in
+    let made = at-loop-test .before .before .before .before in
+    let at-power = made .before in
+    let row = made .product-row .ensures in (
+      row-products _ _ (search needs) row,
+      factor-products _ _ row ∙ at-power .power .ensures ∙ sym (W-is 85 (omega arith)),
+    )
 
 array-write-out : tie.Need-array-write-out Inv-loop μ-loop
 array-write-out c = search needs
@@ -78,8 +85,10 @@ array-write-out-3 c = search needs
 
 next-requires : tie.Need-next-requires Inv-loop μ-loop
 next-requires c κs =
-    let now = c .before .before .before .before .before .before .loop in
-    let made = c .before .before .before .before .before .before .before in
+    let at-sums = c .before .before in
+    let at-loop = at-sums .before .before .before .before in
+    let made = at-loop .before in
+    let now = at-loop .loop in
     rw (now .inv .2) (steps-terms (W (now .p)) _ (made .steps .result) (W-nonzero (now .p)) (made .steps .ensures))
 
 add-p : tie.Need-add-p Inv-loop μ-loop
@@ -90,24 +99,28 @@ loop-less c = search needs
 
 loop-again : tie.Need-loop-again Inv-loop μ-loop
 loop-again c =
-    let spread = c .before .spread .ensures in
     let added = c .before .before .before in
+    let at-loop = added .before .before .before .before in
+    let made = at-loop .before .before in
+    let given = made .before .before .before .before in
+    let spread = c .before .spread .ensures in
     let s = added .sums .result in
     let sums = added .sums .ensures in
-    let now = added .before .before .before .before .loop in
+    let now = at-loop .loop in
     let p = now .p in
-    let made = added .before .before .before .before .before .before in
-    let given = made .before .before .before .before in
     let k = given .args .k in
     let f = symbols (made .exponents .result) in
     let low : below k f = rw (made .exponents .ensures) (below-cut k _) in
-    let at : (q r : ℕ) → pow (W q) 3 ≡ 𝟏 → r ≡ p + q → three (W q) (of (s .a)) (of (s .b)) (of (s .c)) ≡ value k f (W r) =
-    λ q r root is. value-three k p q r f _ _ _ _ low (omega (arith, given .pre)) root is (now .inv .2) (sums .0) (sums .1) (sums .2) in (
+    let at : (q r : ℕ) → pow (W q) 3 ≡ 𝟏 → r ≡ p + q
+    → three (W q) (of (s .a)) (of (s .b)) (of (s .c)) ≡ value k f (W r) =
+    λ q r root is. value-three k p q r f _ _ _ _ low (omega (arith, given .pre)) root is (now .inv .2) (sums .0)
+    (sums .1) (sums .2) in (
       omega arith,
       search needs,
       c .next .ensures ∙ ap (terms (W 1)) (now .inv .2) ∙ terms-add p 1 f,
       placed-more _ _ _ (now .inv .3) (omega arith)
-          (spread .0 ∙ at 0 p cube-zero (omega arith)) (spread .1 ∙ at 85 (p + 85) cube-one refl) (spread .2 ∙ at 170 (p + 170) cube-two refl),
+          (spread .0 ∙ at 0 p cube-zero (omega arith)) (spread .1 ∙ at 85 (p + 85) cube-one refl)
+          (spread .2 ∙ at 170 (p + 170) cube-two refl),
     )
 
 returns : tie.Need-returns Inv-loop μ-loop

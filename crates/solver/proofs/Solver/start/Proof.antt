@@ -15,8 +15,11 @@ start-requires-3 : tie.Need-start-requires-3
 start-requires-3 c κs = search needs
 
 returns : tie.Need-returns
-returns c =
-    (refl, any-start (c .before .before .before .args .named) _ _ _ (c .before .before .start .ensures) (c .before .start2 .ensures) (c .start3 .ensures))
+returns c = (
+  refl,
+  any-start (c .before .before .before .args .named) _ _ _ (c .before .before .start .ensures)
+      (c .before .start2 .ensures) (c .start3 .ensures),
+)
 
 pub start-spec : {M : Type 1} → statement M
 start-spec = tie.close (tie.spec start-requires start-requires-2 start-requires-3 returns)

@@ -42,23 +42,31 @@ swaps-requires-3 c κs = search needs
 returns : tie.Need-returns
 unfolding plain
 returns c =
-    let given = c .before .before .before .before .before .before .before .args in
+    let at-match = c .before .before .before in
+    let given = at-match .before .before .before .before .args in
     for-form _ _ _ (c .before .before .enum-told .given .1)
-    (c .swaps .ensures ∙ ap (λ d. swaps d (k-of (given .r) (given .self .plain .length))) (c .before .discrepancy .ensures))
+    (c .swaps .ensures
+    ∙ ap (λ d. swaps d (k-of (given .r) (given .self .plain .length))) (c .before .discrepancy .ensures))
 
 returns-2 : tie.Need-returns-2
 unfolding lookahead
 returns-2 c =
-    let given = c .before .before .before .before .before .before .before .before .args in
-    for-form _ _ _ (c .before .before .before .enum-told2 .given .1)
-    (c .swaps2 .ensures ∙ ap (λ d. swaps d (k-of (given .r) (given .self .lookahead .length))) (sym (poly-at _ 0 (omega arith))))
+    let at-enum-told2 = c .before .before .before in
+    let at-match = at-enum-told2 .before in
+    let given = at-match .before .before .before .before .args in
+    for-form _ _ _ (at-enum-told2 .enum-told2 .given .1)
+    (c .swaps2 .ensures
+    ∙ ap (λ d. swaps d (k-of (given .r) (given .self .lookahead .length))) (sym (poly-at _ 0 (omega arith))))
 
 returns-3 : tie.Need-returns-3
 unfolding scaled
 returns-3 c =
-    let given = c .before .before .before .before .before .before .before .before .args in
-    for-form _ _ _ (c .before .before .before .enum-told3 .given .1)
-    (c .swaps3 .ensures ∙ ap (λ d. swaps d (k-of (given .r) (given .self .scaled .length))) (sym (poly-at _ 0 (omega arith))))
+    let at-enum-told3 = c .before .before .before in
+    let at-match = at-enum-told3 .before in
+    let given = at-match .before .before .before .before .args in
+    for-form _ _ _ (at-enum-told3 .enum-told3 .given .1)
+    (c .swaps3 .ensures
+    ∙ ap (λ d. swaps d (k-of (given .r) (given .self .scaled .length))) (sym (poly-at _ 0 (omega arith))))
 
 pub swaps-spec : {M : Type 1} → statement M
 swaps-spec =

@@ -43,7 +43,8 @@ returns c =
     let filled = c .before .loop .inv .0 in
     let given = c .before .before .args in
     let e : c .before .loop .i ≡ given .n = omega (arith, c .loop-test .left, c .before .loop .inv .1) in
-    row-values _ (filled .long) ∙ filled .is ∙ ap (λ k. cut k (bytes (given .bytes .now))) e ∙ first-is _ _ (c .before .before .pre)
+    row-values _ (filled .long) ∙ filled .is ∙ ap (λ k. cut k (bytes (given .bytes .now))) e
+    ∙ first-is _ _ (c .before .before .pre)
 
 pub first-spec : {M : Type 1} → statement M
 first-spec =

@@ -27,12 +27,16 @@ add-t21 c = search needs
 
 returns : tie.Need-returns
 returns c form n t =
-    let given = c .before .before .before .before .before .before .before .before .before .args in
-    event-iterate form _ _ (few (given .syndromes .now)) n (given .w) t (c .before .before .if1 .taken) _ _ (c .before .swaps .ensures) (c .iterate .ensures)
+    let at-if1 = c .before .before in
+    let at-p = at-if1 .before .before .before .before in
+    let given = at-p .before .before .before .args in
+    event-iterate form _ _ (few (given .syndromes .now)) n (given .w) t (at-if1 .if1 .taken) _ _
+    (c .before .swaps .ensures) (c .iterate .ensures)
 
 reach-requires : tie.Need-reach-requires
 reach-requires c κs =
-    let going = c .before .before .before .before .before .before .before .pre in
+    let at-p = c .before .before .before .before in
+    let going = at-p .before .before .before .pre in
     (going .few, going .more (c .if1 .left))
 
 first-requires : tie.Need-first-requires
@@ -44,13 +48,15 @@ enter-requires c κs = search needs
 add-t15 : tie.Need-add-t15
 add-t15 c =
     let at = c .before .before .before in
-    let start = at .before .before .before .before .before .before .before in
+    let at-p = at .before .before .before .before in
+    let start = at-p .before .before .before in
     record { fits = omega (arith, start .pre .more (at .if1 .left), start .good .1 .1 .0 .0) }
 
 returns-2 : tie.Need-returns-2
 returns-2 c form n t =
     let at = c .before .before .before in
-    let start = at .before .before .before .before .before .before .before in
+    let at-p = at .before .before .before .before in
+    let start = at-p .before .before .before in
     let given = start .args in
     let more = start .pre .more (at .if1 .left) in
     event-enter form _ (given .lengths .now) (few (given .syndromes .now)) n (given .w) t (at .if1 .left) more _ _ _

@@ -15,13 +15,16 @@ returns : tie.Need-returns
 returns c =
     let given = c .before .before .before .before .args in
     let w = given .w in
-    sym (ap (λ a. a && leb (length (given .lengths .now)) (w .entered)) (lt-leb (w .known) (w .progress .iterations) (c .if1 .taken)))
+    sym (ap (λ a. a && leb (length (given .lengths .now)) (w .entered))
+    (lt-leb (w .known) (w .progress .iterations) (c .if1 .taken)))
 
 returns-2 : tie.Need-returns-2
 returns-2 c =
-    let given = c .before .before .before .before .before .args in
+    let at-if1 = c .before in
+    let given = at-if1 .before .before .before .before .args in
     let w = given .w in
-    sym (ap (λ a. a && leb (length (given .lengths .now)) (w .entered)) (le-leb (w .known) (w .progress .iterations) (c .before .if1 .left)))
+    sym (ap (λ a. a && leb (length (given .lengths .now)) (w .entered))
+    (le-leb (w .known) (w .progress .iterations) (at-if1 .if1 .left)))
 
 pub over-spec : {M : Type 1} → statement M
 over-spec = tie.close (tie.spec cast-if1 returns returns-2)

@@ -16,18 +16,21 @@ shared-slice-read-least : tie.Need-shared-slice-read-least
 shared-slice-read-least c = search needs
 
 cast-least : tie.Need-cast-least
-cast-least c = record { fits = omega (arith, c .shared-slice-known3 .given (c .before .before .before .before .args .entered)) }
+cast-least c =
+    record { fits = omega (arith, c .shared-slice-known3 .given (c .before .before .before .before .args .entered)) }
 
 add-least : tie.Need-add-least
-add-least c = record { fits = omega (arith, c .shared-slice-known3 .given (c .before .before .before .before .args .entered)) }
+add-least c =
+    record { fits = omega (arith, c .shared-slice-known3 .given (c .before .before .before .before .args .entered)) }
 
 least-requires-2 : tie.Need-least-requires-2
 least-requires-2 c κs = search needs
 
 returns : tie.Need-returns
 returns c =
-    let all = c .before .before .least .ensures in
-    let given = c .before .before .before .before .before .args in
+    let at-least = c .before .before in
+    let all = at-least .least .ensures in
+    let given = at-least .before .before .before .args in
     c .least2 .ensures
     ∙ ap (min (given .known + getD (given .lengths .now) (given .entered) 0))
     (all ∙ min-comm (length (given .syndromes .now)) 48 ∙ sym (length-syndromes (given .syndromes .now)))

@@ -34,7 +34,8 @@ returns c =
     let y = x .before .before in
     c .product .ensures
     ∙ ap₂ _⊙_ (x .one-if-zero2 .ensures ∙ ap or-one (y .coefficient2 .ensures))
-    (c .before .inverse .ensures ∙ ap inv (x .before .one-if-zero .ensures ∙ ap or-one (y .before .coefficient .ensures)))
+    (c .before .inverse .ensures
+    ∙ ap inv (x .before .one-if-zero .ensures ∙ ap or-one (y .before .coefficient .ensures)))
 
 pub ratio-spec : {M : Type 1} → statement M
 ratio-spec =

@@ -29,17 +29,21 @@ holding-requires c κs = search needs
 
 returns : tie.Need-returns
 returns c =
-    let x = c .before .before .before .before in
-    let given = x .before .before .before .before .before .before .args in
+    let at-sum2 = c .before .before .before in
+    let x = at-sum2 .before in
+    let at-coefficient = x .before in
+    let at-f = at-coefficient .before .before .before .before in
+    let given = at-f .before .args in
     let next = x .sum .ensures in
-    let s = x .before .coefficient .ensures in
+    let s = at-coefficient .coefficient .ensures in
     c .holding .ensures
     ∙ (λ i. Scaled.holding (given .r) (row (given .s))
     (next i)
     (poly (given .b))
     (val (given .gamma))
     (k-of (given .r) (given .length))
-    ((c .before .before .sum-unless .ensures ∙ ap₂ _⊞_ (c .before .before .before .sum2 .ensures) (ap₂ Scaled.unless s next)) i)
+    ((c .before .before .sum-unless .ensures
+    ∙ ap₂ _⊞_ (at-sum2 .sum2 .ensures) (ap₂ Scaled.unless s next)) i)
     ((c .before .sum-unless2 .ensures ∙ ap (λ x. poly (given .t) ⊞ Scaled.unless x (poly (given .b))) s) i))
 
 pub step-spec : {M : Type 1} → statement M

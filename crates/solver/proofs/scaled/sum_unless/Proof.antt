@@ -23,7 +23,8 @@ sum-requires c κs = search needs
 returns-2 : tie.Need-returns-2
 unfolding unless
 returns-2 c =
-    let z : isZero (val (c .before .before .before .args .x)) ≡ false = sym (c .before .before .is-zero .ensures) ∙ c .before .if1 .left in
+    let z : isZero (val (c .before .before .before .args .x)) ≡ false = sym (c .before .before .is-zero .ensures)
+    ∙ c .before .if1 .left in
     rw z (c .sum .ensures)
 
 pub sum-unless-spec : {M : Type 1} → statement M

@@ -15,7 +15,8 @@ minus-requires : tie.Need-minus-requires
 minus-requires c κs = search needs
 
 returns : tie.Need-returns
-returns c = toZ-ofZ {w = w32} (record { sfits = c .minus .ok }) ∙ c .minus .ensures ∙ k-is (c .before .args .r) (c .before .args .length) _ (omega arith)
+returns c = toZ-ofZ {w = w32} (record { sfits = c .minus .ok }) ∙ c .minus .ensures
+    ∙ k-is (c .before .args .r) (c .before .args .length) _ (omega arith)
 
 pub k-spec : {M : Type 1} → statement M
 k-spec = tie.close (tie.spec mul-minus minus-requires returns)

@@ -25,7 +25,8 @@ returns-2 c =
     let e : 2 * given .length ≡ given .length + given .length = omega arith in
     sym
     (swaps-of (val (given .d)) (given .r) (given .length)
-    ∙ ap (λ (z : Bool). not z && leb (given .length + given .length) (given .r)) (sym (c .before .is-zero .ensures) ∙ c .if1 .left)
+    ∙ ap (λ (z : Bool). not z && leb (given .length + given .length) (given .r))
+    (sym (c .before .is-zero .ensures) ∙ c .if1 .left)
     ∙ ap (λ (n : ℕ). leb n (given .r)) (sym e))
 
 pub swaps-spec : {M : Type 1} → statement M

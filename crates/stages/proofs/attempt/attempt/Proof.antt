@@ -29,7 +29,8 @@ returns : tie.Need-returns
 returns c =
     let at = c .before .before .before .before in
     let given = at .before .before in
-    kept _ (given .pre .0) _ (given .pre .1) _ _ _ _ _ _ _ (c .before .before .before .seen-before .ensures) (c .before .before .seen .ensures)
+    kept _ (given .pre .0) _ (given .pre .1) _ _ _ _ _ _ _ (c .before .before .before .seen-before .ensures)
+    (c .before .before .seen .ensures)
     (at .correctable .ensures .0) (c .before .advance .ensures) (c .tried .ensures)
 
 pub attempt-spec : {M : Type 1} → statement M

@@ -11,7 +11,8 @@ use Rattle.stages.proofs.report.changed.Statement.{statement}
 use Rattle.stages.proofs.report.changed.Tie as tie
 
 abbrev Inv-loop : tie.InvT-loop
-Inv-loop m lines sum₀ i₀ sum i = (i ≤ m) × (length lines ≡ 8) × (sum ≤ 255 * i) × (sum ≡ total i (λ k. count-of (says lines k)))
+Inv-loop m lines sum₀ i₀ sum i = (i ≤ m) × (length lines ≡ 8) × (sum ≤ 255 * i)
+    × (sum ≡ total i (λ k. count-of (says lines k)))
 
 abbrev μ-loop : tie.MeasureT-loop
 μ-loop m lines sum₀ i₀ sum i = m - i
@@ -29,7 +30,14 @@ changes-requires : tie.Need-changes-requires Inv-loop μ-loop
 changes-requires c κs = search needs
 
 add-sum : tie.Need-add-sum Inv-loop μ-loop
-add-sum c = record { fits = omega (arith, c .before .before .before .loop .inv .2, c .changes .ensures .1, c .before .before .before .before .pre) }
+add-sum c = record {
+  fits = omega (
+    arith,
+    c .before .before .before .loop .inv .2,
+    c .changes .ensures .1,
+    c .before .before .before .before .pre,
+  );
+}
 
 add-i : tie.Need-add-i Inv-loop μ-loop
 add-i c = search needs
@@ -44,7 +52,8 @@ loop-again c =
       omega arith,
       now .inv .1,
       omega (arith, c .changes .ensures .1, now .inv .2),
-      changed-more (given .args .t1) (now .sum) (now .i) _ _ (omega (arith, now .inv .1, given .pre)) (now .inv .3) (c .changes .ensures .0),
+      changed-more (given .args .t1) (now .sum) (now .i) _ _ (omega (arith, now .inv .1, given .pre)) (now .inv .3)
+          (c .changes .ensures .0),
     )
 
 returns : tie.Need-returns Inv-loop μ-loop

@@ -34,16 +34,27 @@ array-copy-out-e : tie.Need-array-copy-out-e Inv-loop μ-loop
 array-copy-out-e c = search needs
 
 add-block : tie.Need-add-block Inv-loop μ-loop
-add-block c = let given = c .before .before .before .before in record { fits = omega (arith, inside _ _ _ (given .pre .0) (given .pre .1)) }
+add-block c =
+    let given = c .before .before .before .before in
+    record { fits = omega (arith, inside _ _ _ (given .pre .0) (given .pre .1)) }
 
 slice-read-block : tie.Need-slice-read-block Inv-loop μ-loop
-slice-read-block c = let given = c .before .before .before .before .before in omega (arith, inside _ _ _ (given .pre .0) (given .pre .1))
+slice-read-block c =
+    let at-loop = c .before .before .before in
+    let given = at-loop .before .before in
+    omega (arith, inside _ _ _ (given .pre .0) (given .pre .1))
 
 add-block-2 : tie.Need-add-block-2 Inv-loop μ-loop
-add-block-2 c = let given = c .before .before .before .before .before .before in record { fits = omega (arith, inside _ _ _ (given .pre .0) (given .pre .1)) }
+add-block-2 c =
+    let at-loop = c .before .before .before .before in
+    let given = at-loop .before .before in
+    record { fits = omega (arith, inside _ _ _ (given .pre .0) (given .pre .1)) }
 
 slice-write-block : tie.Need-slice-write-block Inv-loop μ-loop
-slice-write-block c = let given = c .before .before .before .before .before .before in omega (arith, inside _ _ _ (given .pre .0) (given .pre .1))
+slice-write-block c =
+    let at-loop = c .before .before .before .before in
+    let given = at-loop .before .before in
+    omega (arith, inside _ _ _ (given .pre .0) (given .pre .1))
 
 add-q : tie.Need-add-q Inv-loop μ-loop
 add-q c = search needs
@@ -53,16 +64,19 @@ loop-less c = search needs
 
 loop-again : tie.Need-loop-again Inv-loop μ-loop
 loop-again c =
-    let given = c .before .before .before .before .before .before in
-    let now = c .before .before .before .before .loop in
+    let at-loop = c .before .before .before .before in
+    let given = at-loop .before .before in
+    let now = at-loop .loop in
     let at = given .args .i * given .args .p .length + now .q in
     let e = getD (given .args .t3) (now .q) (record { 0 = 0 }) in (
       omega arith,
       search needs,
-      add-more (now .block) (given .args .i * given .args .p .length) (now .q) _ (bytes (given .args .block .now)) (values (given .args .t3))
+      add-more (now .block) (given .args .i * given .args .p .length) (now .q) _ (bytes (given .args .block .now))
+          (values (given .args .t3))
           (omega (arith, inside _ _ _ (given .pre .0) (given .pre .1))) (now .inv .2)
           (bytes-xor (now .block) at (e .0)
-          ∙ ap (λ (x : F). bytes (now .block) at ⊕ x) (sym (read-at val (record { 0 = 0 }) (given .args .t3) (now .q) ∙ val-of e))),
+          ∙ ap (λ (x : F). bytes (now .block) at ⊕ x)
+          (sym (read-at val (record { 0 = 0 }) (given .args .t3) (now .q) ∙ val-of e))),
     )
 
 same-length : tie.Need-same-length Inv-loop μ-loop
@@ -74,7 +88,8 @@ returns c =
     let e : c .before .loop .q ≡ given .args .p .length = omega arith in
     added (given .args .p .length) (given .args .i) (given .args .i * given .args .p .length) _ _ _ refl
     (c .before .loop .inv .2
-    ∙ ap (λ q. bytes (given .args .block .now) ⊞ zpow (given .args .i * given .args .p .length) ⊠ cut q (values (given .args .t3))) e)
+    ∙ ap (λ q. bytes (given .args .block .now)
+    ⊞ zpow (given .args .i * given .args .p .length) ⊠ cut q (values (given .args .t3))) e)
 
 pub correct-spec : {M : Type 1} → statement M
 correct-spec =

@@ -18,15 +18,20 @@ is-clean-requires c κs = search needs
 
 returns-2 : tie.Need-returns-2
 returns-2 c =
-    let given = c .before .before .before .before .before in
-    let waits = meets _ (c .before .before .before .if1 .left) in
+    let at-if1 = c .before .before .before in
+    let given = at-if1 .before .before in
+    let waits = meets _ (at-if1 .if1 .left) in
     let (first, zero) = clean-yes _ _ (sym (c .before .is-clean .ensures) ∙ c .if2 .taken) in (
       λ settled. absurd (true≢false (sym waits ∙ settled)),
-      λ _ f ready. took-clean _ f _ _ _ _ _ (given .args .line .solver) (given .pre .0 .valid .length .1) first (zero-row _ zero) ready,
+      λ _ f ready. took-clean _ f _ _ _ _ _ (given .args .line .solver) (given .pre .0 .valid .length .1) first
+          (zero-row _ zero) ready,
     )
 
 attempt-requires : tie.Need-attempt-requires
-attempt-requires c κs = let given = c .before .before .before .before .before in (given .pre .0 .valid, given .pre .2)
+attempt-requires c κs =
+    let at-if1 = c .before .before .before in
+    let given = at-if1 .before .before in
+    (given .pre .0 .valid, given .pre .2)
 
 take-requires : tie.Need-take-requires
 take-requires c κs = search needs
@@ -36,13 +41,19 @@ same-length c = search needs
 
 returns-3 : tie.Need-returns-3
 returns-3 c =
-    let given = c .before .before .before .before .before .before .before .before .before .before in
-    let waits = meets _ (c .before .before .before .before .before .before .before .before .if1 .left) in
-    let attempt = c .before .before .before .before .attempt in
-    let dirty = sym (c .before .before .before .before .before .before .is-clean .ensures) ∙ c .before .before .before .before .before .if2 .left in (
+    let at-attempt = c .before .before .before .before in
+    let at-if2 = at-attempt .before in
+    let at-is-clean = at-if2 .before in
+    let at-if1 = at-is-clean .before .before in
+    let given = at-if1 .before .before in
+    let waits = meets _ (at-if1 .if1 .left) in
+    let attempt = at-attempt .attempt in
+    let dirty = sym (at-is-clean .is-clean .ensures)
+    ∙ at-if2 .if2 .left in (
       λ settled. absurd (true≢false (sym waits ∙ settled)),
       λ _ f ready. rw (attempt .ensures .1 .0 f ready) at
-          (c .before .before .take .ensures f _ (offered _ f _ (given .args .row) _ (attempt .result) dirty ready (attempt .ensures .0) (attempt .ensures .1 .1 f ready))),
+          (c .before .before .take .ensures f _ (offered _ f _ (given .args .row) _ (attempt .result) dirty ready
+          (attempt .ensures .0) (attempt .ensures .1 .1 f ready))),
     )
 
 pub stage-spec : {M : Type 1} → statement M

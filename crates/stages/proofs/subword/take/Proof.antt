@@ -6,7 +6,10 @@ use Rattle.stages.proofs.subword.take.Statement.{statement}
 use Rattle.stages.proofs.subword.take.Tie as tie
 
 returns : tie.Need-returns
-returns c = λ f S o. took-none _ f _ _ S _ (c .before .before .before .before .before .args .a) o (unless _ (c .if1 .taken)) _
+returns c =
+    let at-slice-known = c .before .before .before .before in
+    let given = at-slice-known .before in
+    λ f S o. took-none _ f _ _ S _ (given .args .a) o (unless _ (c .if1 .taken)) _
 
 correct-requires : tie.Need-correct-requires
 correct-requires c κs = search needs
@@ -19,8 +22,13 @@ same-length c = search needs
 
 returns-2 : tie.Need-returns-2
 returns-2 c =
-    let given = c .before .before .before .before .before .before .before .before .before .before .before in
-    λ f S o. took-some _ f _ _ S _ (given .args .a) o _ (c .verdict-of .result) (meets _ (c .before .before .before .before .before .before .if1 .left)) (c .before .before .before .correct .ensures) (c .verdict-of .ensures)
+    let at-correct = c .before .before .before in
+    let at-if1 = at-correct .before .before .before in
+    let at-slice-known = at-if1 .before .before .before .before in
+    let given = at-slice-known .before in
+    λ f S o. took-some _ f _ _ S _ (given .args .a) o _
+    (c .verdict-of .result) (meets _ (at-if1 .if1 .left))
+    (at-correct .correct .ensures) (c .verdict-of .ensures)
 
 pub take-spec : {M : Type 1} → statement M
 take-spec = tie.close (tie.spec returns correct-requires verdict-of-requires same-length returns-2)

@@ -22,7 +22,8 @@ returns : tie.Need-returns
 returns c =
     let x = c .before in
     let y = x .before .before in
-    let kept = length-front (y .large-buffer .result) (x .read-full .last .1 .0) (y .before .args .n) (x .read-full .kept .1 .0) in
+    let kept =
+    length-front (y .large-buffer .result) (x .read-full .last .1 .0) (y .before .args .n) (x .read-full .kept .1 .0) in
     (omega (arith, kept), sym (length-take-le _ _ (omega (arith, kept))))
 
 pub bytes-spec : {M : Type 1} → statement M

@@ -18,7 +18,8 @@ abbrev μ-loop : tie.MeasureT-loop
 
 loop-holds : tie.Need-loop-holds Inv-loop μ-loop
 loop-holds c =
-    let given = c .before .before .before .before .before in (
+    let at-shared-slice-known = c .before .before .before .before in
+    let given = at-shared-slice-known .before in (
       leaving-none refl (given .pre .1),
       leaving-none (given .pre .2) (given .pre .1),
       leaving-none (given .pre .3) (given .pre .1),

@@ -17,7 +17,8 @@ shifted-requires c κs = search needs
 returns : tie.Need-returns
 returns c =
     let given = c .before .before .before .before in
-    feeds narrow (given .args .t .now) _ _ _ (given .args .x) _ (given .pre) (c .before .before .index .ensures) (c .before .narrow .ensures .0) (c .shifted .ensures)
+    feeds narrow (given .args .t .now) _ _ _ (given .args .x) _ (given .pre) (c .before .before .index .ensures)
+    (c .before .narrow .ensures .0) (c .shifted .ensures)
 
 pub step-spec : {M : Type 1} → statement M
 step-spec = tie.close (tie.spec index-requires narrow-requires shifted-requires returns)

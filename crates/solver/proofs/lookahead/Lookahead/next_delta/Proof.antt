@@ -30,13 +30,16 @@ sum-requires c κs = search needs
 returns : tie.Need-returns
 unfolding lookahead
 returns c =
-    let x = c .before .before .before .before in
-    let given = x .before .before .before .before .before .before .args .self in
+    let at-combine = c .before .before .before in
+    let x = at-combine .before in
+    let at-over-z = x .before in
+    let at-f = at-over-z .before .before .before .before in
+    let given = at-f .before .args .self in
     let m = lookahead 0 given in
     let Δ0 = sym (poly-at (given .delta) 0 (omega arith)) in
-    let over = x .before .over-z .ensures in
+    let over = at-over-z .over-z .ensures in
     let zB = x .times-z .ensures in
-    let left = c .before .before .before .combine .ensures ∙ λ i. K (m .γ) ⊠ over i ⊞ K (m .γS) ⊠ m .Λ in
+    let left = at-combine .combine .ensures ∙ λ i. K (m .γ) ⊠ over i ⊞ K (m .γS) ⊠ m .Λ in
     let right = c .before .combine2 .ensures ∙ λ i. K (Δ0 i) ⊠ m .Θ ⊞ K (m .δS) ⊠ zB i in
     c .sum .ensures ∙ (λ i. left i ⊞ right i) ∙ cut-Δ m (below-poly _) (below-poly _) (below-poly _)
 

@@ -30,7 +30,8 @@ returns : tie.Need-returns
 unfolding lookahead
 returns c =
     let x = c .before .before .before in
-    let given = x .before .before .before .before .before .args .self in
+    let at-f = x .before .before .before .before in
+    let given = at-f .before .args .self in
     let m = lookahead 0 given in
     let Λ0 = sym (poly-at (given .locator) 0 (omega arith)) in
     let Δ0 = sym (poly-at (given .delta) 0 (omega arith)) in

@@ -45,7 +45,9 @@ array-copy-out-d c = search needs
 next-length-requires : tie.Need-next-length-requires
 unfolding lookahead
 next-length-requires c κs =
-    let first = c .before .before .before .before .before .before .before .before .before .before in
+    let at-add-multiple = c .before .before .before .before in
+    let at-coefficient2 = at-add-multiple .before .before .before .before in
+    let first = at-coefficient2 .before .before in
     swap-room _ (first .args .r) (first .args .self .length) (first .pre)
 
 step-requires : tie.Need-step-requires
@@ -54,21 +56,24 @@ step-requires c κs = search needs
 returns : tie.Need-returns
 unfolding lookahead clip-lookahead
 returns c =
-    let x = c .before .before .before .before .before .before in
-    let y = x .before .before .before .before .before in
+    let at-two-products = c .before .before .before in
+    let x = at-two-products .before .before .before in
+    let at-over-z = x .before in
+    let at-coefficient2 = at-over-z .before .before .before in
+    let y = at-coefficient2 .before in
     let first = y .before in
     let given = first .args in
     let m = lookahead (given .r) (given .self) in
     let s1 = y .coefficient .ensures in
-    let s3 = x .before .before .before .before .coefficient2 .ensures in
-    let over = x .before .over-z .ensures in
+    let s3 = at-coefficient2 .coefficient2 .ensures in
+    let over = at-over-z .over-z .ensures in
     let Λ0 = sym (poly-at (given .self .locator) 0 (omega arith)) in
     let Δ0 = sym (poly-at (given .self .delta) 0 (omega arith)) in
     let Δ1 = sym (poly-at (given .self .delta) 1 (omega arith)) in
     let B = sym (below-cut-eq 49 (m .Λ) (below-poly _)) in
     let k = c .before .next-length .ensures in
     let Θ = x .add-multiple .ensures ∙ (λ j. over j ⊞ K (s1 j) ⊠ m .Λ) ∙ cut-swap-Θ m (below-poly _) (below-poly _) _ in
-    let θS = c .before .before .before .two-products .ensures ∙ (λ j. s3 j ⊙ Δ1 j ⊕ m .g1 ⊙ Λ0 j) in
+    let θS = at-two-products .two-products .ensures ∙ (λ j. s3 j ⊙ Δ1 j ⊕ m .g1 ⊙ Λ0 j) in
     c .step .ensures ∙ λ i. stepped (given .r) (row (given .s)) m (B i) (Δ0 i) (k i) (Θ i) (θS i)
 
 pub swap-spec : {M : Type 1} → statement M

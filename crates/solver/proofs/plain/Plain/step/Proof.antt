@@ -20,7 +20,8 @@ swaps-requires c κs = search needs
 
 next-length-requires : tie.Need-next-length-requires
 next-length-requires c κs =
-    let given = c .before .before .before .before .before .before .before .args in
+    let at-times-z = c .before .before .before in
+    let given = at-times-z .before .before .before .before .args in
     swap-room _ (given .r) (given .self .length) (sym (c .before .swaps .ensures) ∙ c .if1 .taken)
 
 returns : tie.Need-returns
@@ -28,18 +29,20 @@ unfolding plain
 returns c S d =
     let at = c .before .before in
     let x = at .before in
-    let given = x .before .before .before .before .before .args in
+    let at-times-z = x .before in
+    let given = at-times-z .before .before .before .before .args in
     plain-swap (given .r) S (plain (given .r) (given .self)) _ _ _ _ (below-poly _)
-    d (x .before .times-z .ensures) (x .combine .ensures)
+    d (at-times-z .times-z .ensures) (x .combine .ensures)
     (sym (at .swaps .ensures) ∙ c .before .if1 .taken) (c .next-length .ensures)
 
 returns-2 : tie.Need-returns-2
 unfolding plain
 returns-2 c S d =
     let x = c .before .before in
-    let given = x .before .before .before .before .before .args in
+    let at-times-z = x .before in
+    let given = at-times-z .before .before .before .before .args in
     plain-hold (given .r) S (plain (given .r) (given .self)) _ _ _ _ (below-poly _)
-    d (x .before .times-z .ensures) (x .combine .ensures)
+    d (at-times-z .times-z .ensures) (x .combine .ensures)
     (sym (c .before .swaps .ensures) ∙ c .if1 .left) (hold-k _ _)
 
 pub step-spec : {M : Type 1} → statement M

@@ -40,18 +40,23 @@ returns : tie.Need-returns
 unfolding scaled or-one
 returns c =
     let w = c .before .before .before in
-    let y = w .before .before .before .before in
-    let given = y .before .before .before .before .before .before .args in
+    let at-scale3 = w .before in
+    let at-scale2 = at-scale3 .before in
+    let at-scale = at-scale2 .before in
+    let y = at-scale .before in
+    let at-coefficient = y .before in
+    let at-f = at-coefficient .before .before .before .before in
+    let given = at-f .before .args in
     let m = scaled (given .u) (given .self) in
-    let s = y .before .coefficient .ensures in
+    let s = at-coefficient .coefficient .ensures in
     let s′ = y .one-if-zero .ensures ∙ ap or-one s in
     c .holding .ensures
     ∙ (λ i. Scaled.holding (given .u) (row (given .s))
-    ((w .before .before .before .scale .ensures ∙ ap (λ a. K a ⊠ m .Λ) s′) i)
-    ((w .before .before .scale2 .ensures ∙ ap (λ a. K a ⊠ m .B) s′) i)
+    ((at-scale .scale .ensures ∙ ap (λ a. K a ⊠ m .Λ) s′) i)
+    ((at-scale2 .scale2 .ensures ∙ ap (λ a. K a ⊠ m .B) s′) i)
     (m .γ′)
     (m .k)
-    ((c .before .before .sum .ensures ∙ ap (λ f. m .Δ ⊞ f) (w .before .scale3 .ensures ∙ ap (λ a. K a ⊠ m .Λ) s)) i)
+    ((c .before .before .sum .ensures ∙ ap (λ f. m .Δ ⊞ f) (at-scale3 .scale3 .ensures ∙ ap (λ a. K a ⊠ m .Λ) s)) i)
     ((c .before .sum2 .ensures ∙ ap (λ f. m .Θ ⊞ f) (w .scale4 .ensures ∙ ap (λ a. K a ⊠ m .B) s)) i))
 
 pub enter-spec : {M : Type 1} → statement M

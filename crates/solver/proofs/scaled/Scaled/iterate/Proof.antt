@@ -27,8 +27,10 @@ product-requires c κs = search needs
 next-length-requires : tie.Need-next-length-requires
 next-length-requires c κs =
     let x = c .before .before .before in
-    let given = x .before .before .before .before .before .before .before .args in
-    swap-room _ (given .r) (given .self .length) (sym (x .before .swaps .ensures) ∙ x .if1 .taken)
+    let at-swaps = x .before in
+    let at-delta = at-swaps .before .before .before .before in
+    let given = at-delta .before .before .args in
+    swap-room _ (given .r) (given .self .length) (sym (at-swaps .swaps .ensures) ∙ x .if1 .taken)
 
 step-requires : tie.Need-step-requires
 step-requires c κs = search needs
@@ -36,12 +38,18 @@ step-requires c κs = search needs
 returns : tie.Need-returns
 unfolding scaled
 returns c =
-    let x = c .before .before .before .before .before .before in
-    let given = x .before .before .before .before .before .before .args in
-    let swap = sym (x .swaps .ensures) ∙ c .before .before .before .before .before .if1 .taken in
+    let at-product = c .before .before in
+    let at-if1 = at-product .before .before .before in
+    let x = at-if1 .before in
+    let at-products = x .before in
+    let at-b = at-products .before .before .before .before in
+    let given = at-b .before .args in
+    let swap = sym (x .swaps .ensures) ∙ at-if1 .if1 .taken in
     c .step .ensures
-    ∙ scaled-swap (given .r) (row (given .s)) (scaled (given .r) (given .self)) _ _ _ _ _ _ _ (poly-at _ 0 (omega arith))
-    (x .before .products .ensures (given .r)) swap (c .before .before .product .ensures) (c .before .next-length .ensures)
+    ∙ scaled-swap (given .r) (row (given .s)) (scaled (given .r) (given .self)) _ _ _ _ _ _ _
+    (poly-at _ 0 (omega arith))
+    (at-products .products .ensures (given .r)) swap (at-product .product .ensures)
+    (c .before .next-length .ensures)
 
 is-zero-requires : tie.Need-is-zero-requires
 is-zero-requires c κs = search needs
@@ -56,12 +64,18 @@ returns-2 : tie.Need-returns-2
 unfolding scaled
 returns-2 c =
     let then = c .before .before in
-    let x = then .before .before .before in
-    let given = x .before .before .before .before .before .before .args in
+    let at-is-zero = then .before in
+    let at-if1 = at-is-zero .before in
+    let x = at-if1 .before in
+    let at-products = x .before in
+    let at-b = at-products .before .before .before .before in
+    let given = at-b .before .args in
     c .step2 .ensures
-    ∙ scaled-pass (given .r) (row (given .s)) (scaled (given .r) (given .self)) _ _ _ _ _ _ _ (poly-at _ 0 (omega arith))
-    (x .before .products .ensures (given .r)) _ (sym (x .swaps .ensures) ∙ then .before .before .if1 .left)
-    (sym (then .before .is-zero .ensures) ∙ then .if2 .taken) (c .before .scale-shifted .ensures) (poly-cut _ _ refl) refl (hold-k _ _)
+    ∙ scaled-pass (given .r) (row (given .s)) (scaled (given .r) (given .self)) _ _ _ _ _ _ _
+    (poly-at _ 0 (omega arith))
+    (at-products .products .ensures (given .r)) _ (sym (x .swaps .ensures) ∙ at-if1 .if1 .left)
+    (sym (at-is-zero .is-zero .ensures) ∙ then .if2 .taken) (c .before .scale-shifted .ensures)
+    (poly-cut _ _ refl) refl (hold-k _ _)
 
 product-requires-2 : tie.Need-product-requires-2
 product-requires-2 c κs = search needs
@@ -73,12 +87,17 @@ returns-3 : tie.Need-returns-3
 unfolding scaled
 returns-3 c =
     let else = c .before .before .before .before in
-    let x = else .before .before .before in
-    let given = x .before .before .before .before .before .before .args in
+    let at-is-zero = else .before in
+    let at-if1 = at-is-zero .before in
+    let x = at-if1 .before in
+    let at-products = x .before in
+    let at-b = at-products .before .before .before .before in
+    let given = at-b .before .args in
     c .step3 .ensures
-    ∙ scaled-hold (given .r) (row (given .s)) (scaled (given .r) (given .self)) _ _ _ _ _ _ _ (poly-at _ 0 (omega arith))
-    (x .before .products .ensures (given .r)) (sym (x .swaps .ensures) ∙ else .before .before .if1 .left)
-    (sym (else .before .is-zero .ensures) ∙ else .if2 .left) (c .before .product2 .ensures) (hold-k _ _)
+    ∙ scaled-hold (given .r) (row (given .s)) (scaled (given .r) (given .self)) _ _ _ _ _ _ _
+    (poly-at _ 0 (omega arith))
+    (at-products .products .ensures (given .r)) (sym (x .swaps .ensures) ∙ at-if1 .if1 .left)
+    (sym (at-is-zero .is-zero .ensures) ∙ else .if2 .left) (c .before .product2 .ensures) (hold-k _ _)
 
 pub iterate-spec : {M : Type 1} → statement M
 iterate-spec =
