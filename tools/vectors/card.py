@@ -1,4 +1,4 @@
-"""test_card: the model's cards of seed 7, and document 01's sample card cut at every byte and followed by one byte too
+"""test_card: the model's cards of seed 7, and FORMAT's sample card cut at every byte and followed by one byte too
 many. The lists are what the model's card program prints."""
 import cases
 import gii

@@ -35,7 +35,7 @@ def model_rows(c):
 
 
 def small(c):
-    """Document 01's row, and small t and n, also such as no profile has."""
+    """FORMAT's sample row, and small t and n, also such as no profile has."""
     for n in 26, 255, 25, 2:
         c.add(1, n, [3, 5])
     c.add(2, 26, [3, 5, 9, 17])

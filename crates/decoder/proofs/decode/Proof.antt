@@ -17,10 +17,9 @@ enum-known-p c = search needs
 read-requires : tie.Need-read-requires
 read-requires c κs =
     let told = c .before .before in
-    let given =
-    let back-6 = told .before .before .before .before in
-    back-6 .before .before in
-    let yes = sym (told .before .before .admit .ensures) ∙ told .p .given .1 in
+    let at-admit = told .before .before in
+    let given = at-admit .before .before .before .before in
+    let yes = sym (at-admit .admit .ensures) ∙ told .p .given .1 in
     let (ok, input, output) = reading-passed (given .args .profile .now) _ _ _ yes (omega arith) in
     (record { valid = ok; size = input }, output ∙ sym input)
 
@@ -39,8 +38,8 @@ returns c =
     let told = at-read .before .before .before in
     let at-admit = told .before .before in
     let given = at-admit .before .before .before .before in
-    let is =
-    ap (λ a. judged a (given .args .input .now)) (sym (at-admit .admit .ensures) ∙ told .p .given .1) in
+    let yes = sym (at-admit .admit .ensures) ∙ told .p .given .1 in
+    let is = ap (λ a. judged a (given .args .input .now)) yes in
     let read = at-read .read in
     let gives = gives-as (given .args .form) _ _ _ _ (read .result) is (read .ensures) in
     (gives .answer, (gives .block, gives .report))
@@ -54,12 +53,12 @@ returns-2 c =
     let told = at-refuse .before .before .before in
     let at-admit = told .before .before in
     let given = at-admit .before .before .before .before in
-    let is =
-    ap (λ a. judged a (given .args .input .now)) (sym (at-admit .admit .ensures) ∙ told .q .given .1) in
+    let no = sym (at-admit .admit .ensures) ∙ told .q .given .1 in
+    let is = ap (λ a. judged a (given .args .input .now)) no in
     let refuse = at-refuse .refuse in
     let form = given .args .form in
-    let refused =
-    gives-refused form _ _ _ (refuse .result) (refuse .ensures .0) (refuse .ensures .1 .0) (refuse .ensures .1 .1) in
+    let (answer, (same, report)) = refuse .ensures in
+    let refused = gives-refused form _ _ _ (refuse .result) answer same report in
     let gives = gives-as form _ _ _ _ (refuse .result) is refused in
     (gives .answer, (gives .block, gives .report))
 

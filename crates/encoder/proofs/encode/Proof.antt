@@ -18,10 +18,9 @@ enum-known-p c = search needs
 write-requires : tie.Need-write-requires
 write-requires c κs =
     let told = c .before .before in
-    let given =
-    let back-6 = told .before .before .before .before in
-    back-6 .before .before in
-    let yes = sym (told .before .before .admit .ensures) ∙ told .p .given .1 in
+    let at-admit = told .before .before in
+    let given = at-admit .before .before .before .before in
+    let yes = sym (at-admit .admit .ensures) ∙ told .p .given .1 in
     let (ok, input, output) = writing-passed (given .args .profile .now) _ _ _ yes (omega arith) in
     (record { valid = ok; size = output }, input)
 
@@ -36,18 +35,16 @@ same-length c = search needs
 
 returns : tie.Need-returns
 returns c =
-    let told =
-    let back-4 = c .before .before .before .before in
-    back-4 .before in
-    let given =
-    let back-9 = told .before .before .before .before in
-    back-9 .before .before in
-    let yes = sym (told .before .before .admit .ensures) ∙ told .p .given .1 in
+    let at-write = c .before .before in
+    let told = at-write .before .before .before in
+    let at-admit = told .before .before in
+    let given = at-admit .before .before .before .before in
+    let yes = sym (at-admit .admit .ensures) ∙ told .p .given .1 in
     let (ok, input, output) = writing-passed (given .args .profile .now) _ _ _ yes (omega arith) in (
       sym (ap answer-of yes),
       written-is _ ok _ _ _ _ yes (omega (arith, c .before .out .given, output))
           (λ i. omega (arith, c .slice-known2 .given i))
-          (c .before .before .write .ensures),
+          (at-write .write .ensures),
     )
 
 same-length-2 : tie.Need-same-length-2

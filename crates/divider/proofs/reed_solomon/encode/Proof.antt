@@ -31,15 +31,15 @@ slice-relend-prefix-copy c = search needs
 slice-aggregate-copy : tie.Need-slice-aggregate-copy
 slice-aggregate-copy c =
     let checks = c .before .before .before in
-    let back-7 = checks .before .before .before .before in
-    let given = back-7 .before in
+    let at-remainder = checks .before in
+    let given = at-remainder .before .before .before .before in
     sym (length-take-le (given .args .k) (given .args .word .now) (given .pre .2))
 
 copy-requires : tie.Need-copy-requires
 copy-requires c κs =
     let checks = c .before .before .before in
-    let back-7 = checks .before .before .before .before in
-    let given = back-7 .before in
+    let at-remainder = checks .before in
+    let given = at-remainder .before .before .before .before in
     let long : length (checks .unpack .result) ≡ 48 = search needs in
     room (given .args .k) (checks .unpack .result) (given .args .word .now) (given .pre .1) (given .pre .2) long
 
