@@ -17,9 +17,10 @@ enum-known-p c = search needs
 read-requires : tie.Need-read-requires
 read-requires c κs =
     let told = c .before .before in
+    let given =
     let at-admit = told .before .before in
-    let given = at-admit .before .before .before .before in
-    let yes = sym (at-admit .admit .ensures) ∙ told .p .given .1 in
+    at-admit .before .before .before .before in
+    let yes = sym (told .before .before .admit .ensures) ∙ told .p .given .1 in
     let (ok, input, output) = reading-passed (given .args .profile .now) _ _ _ yes (omega arith) in
     (record { valid = ok; size = input }, output ∙ sym input)
 

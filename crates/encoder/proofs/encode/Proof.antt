@@ -18,9 +18,10 @@ enum-known-p c = search needs
 write-requires : tie.Need-write-requires
 write-requires c κs =
     let told = c .before .before in
+    let given =
     let at-admit = told .before .before in
-    let given = at-admit .before .before .before .before in
-    let yes = sym (at-admit .admit .ensures) ∙ told .p .given .1 in
+    at-admit .before .before .before .before in
+    let yes = sym (told .before .before .admit .ensures) ∙ told .p .given .1 in
     let (ok, input, output) = writing-passed (given .args .profile .now) _ _ _ yes (omega arith) in
     (record { valid = ok; size = output }, input)
 
@@ -35,16 +36,18 @@ same-length c = search needs
 
 returns : tie.Need-returns
 returns c =
+    let told =
     let at-write = c .before .before in
-    let told = at-write .before .before .before in
+    at-write .before .before .before in
+    let given =
     let at-admit = told .before .before in
-    let given = at-admit .before .before .before .before in
-    let yes = sym (at-admit .admit .ensures) ∙ told .p .given .1 in
+    at-admit .before .before .before .before in
+    let yes = sym (told .before .before .admit .ensures) ∙ told .p .given .1 in
     let (ok, input, output) = writing-passed (given .args .profile .now) _ _ _ yes (omega arith) in (
       sym (ap answer-of yes),
       written-is _ ok _ _ _ _ yes (omega (arith, c .before .out .given, output))
           (λ i. omega (arith, c .slice-known2 .given i))
-          (at-write .write .ensures),
+          (c .before .before .write .ensures),
     )
 
 same-length-2 : tie.Need-same-length-2
