@@ -12,7 +12,7 @@ use profile::questions::Caller;
 use profile::questions::Lent;
 
 // The most bytes of a section.
-pub const SECTION: usize = 2040;
+pub const SECTION: usize = profile::SYMBOLS;
 
 // What comes next on a card.
 pub enum Section {

@@ -40,12 +40,12 @@ concluded p (accepted s x) = read p s x
 concluded p (failed r) = refused (Unsettled r)
 concluded p foreign = refused NotCodeword
 
-abbrev pub judged : Parsed → List ℕ → Result
-judged (Accepted p) y = concluded p (decode p (bytes y))
-judged (Refused q) y = refused q
+abbrev pub result-of : Parsed → List ℕ → Result
+result-of (Accepted p) y = concluded p (decode p (bytes y))
+result-of (Refused q) y = refused q
 
 abbrev pub reading : List ℕ → List ℕ → ℕ → Result
-reading b y o = judged (reading-of b (length y) o) y
+reading b y o = result-of (reading-of b (length y) o) y
 
 -- ---- what is said of a result
 

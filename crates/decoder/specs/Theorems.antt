@@ -1,7 +1,7 @@
 -- What the promises of `decode` come to. `reading b y o` is the result for the profile bytes b, the input y and an
 -- output of o bytes; what is answered, written and reported for it is what `decode` promises.
 --
---   Judged b p n      the bytes b are an accepted profile p whose blocks have n bytes
+--   Profiled b p n      the bytes b are an accepted profile p whose blocks have n bytes
 --   Accepts b y o     the reading is accepted: of which profile, with which block and report
 --   Alike f g e k a c  the readings a and c end alike, but for the solvers, which stand at the end of the same rounds
 --                     in each form
@@ -47,22 +47,22 @@ use Rattle.staged_decoding.specs.Clean.{untouched, decode-codeword}
 use Rattle.stages.specs.declared.report.Line.{Line}
 use Rattle.stages.specs.Report.{says, Has}
 use Rattle.decoder.specs.declared.prepared.Reading.{Reading}
-use Rattle.decoder.specs.Definition.{Result, read, concluded, judged, reading}
+use Rattle.decoder.specs.Definition.{Result, read, concluded, result-of, reading}
 use Rattle.decoder.specs.Definition.{answer-to, block-of, report-of, Gives}
 
 -- ---- accepted profiles
 
-pub record Judged (b : List ℕ) (p : Profile) (n : ℕ) : Type 0 where
+pub record Profiled (b : List ℕ) (p : Profile) (n : ℕ) : Type 0 where
   pub profile : profile-of b ≡ Accepted p
   pub small : (i : ℕ) → getD b i 0 < 256
   pub size : n ≡ block-size p
 
-judged-valid : (b : List ℕ) (p : Profile) (n : ℕ) → Judged b p n → Valid p
-judged-valid b p n j = admitted-valid Card b 0 0 0 p (j .profile) (omega (arith, j .small 2))
+profiled-valid : (b : List ℕ) (p : Profile) (n : ℕ) → Profiled b p n → Valid p
+profiled-valid b p n j = admitted-valid Card b 0 0 0 p (j .profile) (omega (arith, j .small 2))
 
-pub reading-is : (b : List ℕ) (p : Profile) (y : List ℕ) (o : ℕ) → Judged b p (length y) → o ≡ length y
+pub reading-is : (b : List ℕ) (p : Profile) (y : List ℕ) (o : ℕ) → Profiled b p (length y) → o ≡ length y
     → reading b y o ≡ concluded p (decode p (bytes y))
-reading-is b p y o j e = ap (λ a. judged a y) (reading-admitted b (length y) o p (j .profile) (j .size) (e ∙ j .size))
+reading-is b p y o j e = ap (λ a. result-of a y) (reading-admitted b (length y) o p (j .profile) (j .size) (e ∙ j .size))
 
 -- ---- accepted blocks
 
@@ -87,12 +87,12 @@ read-accepts b y o e = go (reading-of b (length y) o) refl e
       report = x;
       profile = admitted-profile Decoder b (length y) o 0 p q;
       decoded = d;
-      is = ap (λ a. judged a y) q ∙ ap (concluded p) d;
+      is = ap (λ a. result-of a y) q ∙ ap (concluded p) d;
     }
     outcome p q (failed r) d e = let z : _≡_ {A = ℕ} 0 1 = cc in absurd (omega arith)
     outcome p q foreign d e = let z : _≡_ {A = ℕ} 0 1 = cc in absurd (omega arith)
 
-    go : (a : Parsed) → reading-of b (length y) o ≡ a → answer-to (judged a y) ≡ answer.Accepted → Accepts b y o
+    go : (a : Parsed) → reading-of b (length y) o ≡ a → answer-to (result-of a y) ≡ answer.Accepted → Accepts b y o
     go (Accepted p) q e = outcome p q (decode p (bytes y)) refl e
     go (Refused r) q e = let z : _≡_ {A = ℕ} 0 1 = cc in absurd (omega arith)
 
@@ -114,7 +114,7 @@ read-codeword b y o e =
 
 -- ---- restoring
 
-module _ (b : List ℕ) (p : Profile) (c y o : List ℕ) (j : Judged b p (length y)) (same : length c ≡ length y)
+module _ (b : List ℕ) (p : Profile) (c y o : List ℕ) (j : Profiled b p (length y)) (same : length c ≡ length y)
     (room : length o ≡ length y)
     (small : (i : ℕ) → getD c i 0 < 256) where
   -- c was written and y is read
@@ -122,21 +122,21 @@ module _ (b : List ℕ) (p : Profile) (c y o : List ℕ) (j : Judged b p (length
       → (answer-to (reading b y (length o)) ≡ answer.Accepted) × (block-of (reading b y (length o)) o ≡ c)
       × Restored p (bytes c) (bytes y) (report-of (reading b y (length o)))
   read-restores r =
-      let (x, e, f) = restoring-bytes p (judged-valid b p (length y) j) c y (same ∙ j .size) (j .size) r in
+      let (x, e, f) = restoring-bytes p (profiled-valid b p (length y) j) c y (same ∙ j .size) (j .size) r in
       rw (reading-is b p y (length o) j room, e) (refl, word-bytes (block-size p) c (same ∙ j .size) small, f)
 
-pub read-written : (b : List ℕ) (p : Profile) (c o : List ℕ) → Judged b p (length c) → length o ≡ length c
+pub read-written : (b : List ℕ) (p : Profile) (c o : List ℕ) → Profiled b p (length c) → length o ≡ length c
     → ((i : ℕ) → getD c i 0 < 256)
     → Codeword p (bytes c)
     → (answer-to (reading b c (length o)) ≡ answer.Accepted) × (block-of (reading b c (length o)) o ≡ c)
     × (report-of (reading b c (length o)) ≡ untouched)
 read-written b p c o j room small code =
-    rw (reading-is b p c (length o) j room, decode-codeword p (judged-valid b p (length c) j) (bytes c) code)
+    rw (reading-is b p c (length o) j room, decode-codeword p (profiled-valid b p (length c) j) (bytes c) code)
     (refl, word-bytes (block-size p) c (j .size) small, refl)
 
 -- ---- the answer 8
 
-module _ (b : List ℕ) (p : Profile) (y : List ℕ) (o : ℕ) (j : Judged b p (length y)) (room : o ≡ length y) (s : ℕ) where
+module _ (b : List ℕ) (p : Profile) (y : List ℕ) (o : ℕ) (j : Profiled b p (length y)) (room : o ≡ length y) (s : ℕ) where
   pub read-fails : answer-to (reading b y o) ≡ answer.Refused (Unsettled s) ↔ Fails p (bytes y) s
   read-fails = (
     λ e. failed-course p (bytes y) s .0 (to (decode p (bytes y)) (ap answer-to (sym is) ∙ e)),
@@ -155,7 +155,7 @@ module _ (b : List ℕ) (p : Profile) (y : List ℕ) (o : ℕ) (j : Judged b p (
   pub read-fails-exactly : (c : Series) → Unmistaken p c (bytes y)
       → answer-to (reading b y o) ≡ answer.Refused (Unsettled s) ↔ TooMany p c (bytes y) s
   read-fails-exactly c u =
-      let exact = failing-exactly p (judged-valid b p (length y) j) c (bytes y) u s in
+      let exact = failing-exactly p (profiled-valid b p (length y) j) c (bytes y) u s in
       let course = failed-course p (bytes y) s in
       (λ e. exact .0 (course .1 (read-fails .0 e)), λ t. read-fails .1 (course .0 (exact .1 t)))
 

@@ -21,12 +21,10 @@ use profile::Answer;
 use profile::Profile;
 use profile::Refusal;
 use profile::SUBWORDS;
+use profile::SYMBOLS;
 use solver::Form;
 use stages::Ending;
 use stages::report::Report;
-
-// The most symbols of a block.
-const SYMBOLS: usize = 2040;
 
 // A refusal comes with the empty report.
 pub struct Reading {

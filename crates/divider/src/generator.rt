@@ -38,8 +38,8 @@ fn generator(first: usize, k: usize) -> [u8; SYNDROMES]
     let mut e: usize = 0;
     let mut j: usize = 0;
     while j < k {
-        let up = kernel::wide(z[k - (j + 1)]);
-        let down = kernel::wide(z[j]);
+        let up = kernel::index(z[k - (j + 1)]);
+        let down = kernel::index(z[j]);
         e = e + (first + j + 256 + up) - down;
         j += 1;
         let c = Exponent(e).power();

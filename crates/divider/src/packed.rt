@@ -87,7 +87,7 @@ pub fn sum(a: Packed, b: Packed) -> Packed
 pub fn index(r: Packed, x: u8) -> usize
     ensures { λ i. ⌜ (of i ≡ packed r 47 ⊕ of x) × (i < 256) ⌝ }
 {
-    kernel::wide(((r.5 >> 56) as u8) ^ x)
+    kernel::index(((r.5 >> 56) as u8) ^ x)
 }
 
 // Moves the symbols one place up, with what falls out of each word carried into the next and the last symbol dropped;

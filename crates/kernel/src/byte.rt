@@ -5,7 +5,7 @@ ghost use Rattle.field.specs.Field.{α, _⊕_, _⊙_, of, val};
 use field::Gf;
 
 // A byte as an index.
-pub fn wide(x: u8) -> usize
+pub fn index(x: u8) -> usize
     ensures { λ r. ⌜ (r ≡ x) × (r < 256) ⌝ }
 {
     x as usize

@@ -4,10 +4,10 @@ mod byte;
 mod row;
 mod word;
 
+pub use crate::byte::index;
 pub use crate::byte::multiply;
 pub use crate::byte::product;
 pub use crate::byte::twice;
-pub use crate::byte::wide;
 pub use row::add_multiple;
 pub use row::product_row;
 pub use row::value;

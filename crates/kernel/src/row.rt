@@ -50,7 +50,7 @@ pub fn value(row: &[u8], word: &[u8]) -> Gf
     let mut i: usize = word.len();
     while i > 0 {
         i -= 1;
-        v = row[crate::byte::wide(v)] ^ word[i];
+        v = row[crate::byte::index(v)] ^ word[i];
     }
     Gf(v)
 }
@@ -63,7 +63,7 @@ pub fn add_multiple(row: &[u8], from: &[u8], to: &mut [u8])
 {
     let mut i: usize = 0;
     while i < to.len() {
-        to[i] = to[i] ^ row[crate::byte::wide(from[i])];
+        to[i] = to[i] ^ row[crate::byte::index(from[i])];
         i += 1;
     }
 }

@@ -17,6 +17,9 @@ pub const NESTED: usize = 3;
 // The most positions of a word.
 pub const POSITIONS: usize = 255;
 
+// The most symbols of a block.
+pub const SYMBOLS: usize = SUBWORDS * POSITIONS;
+
 // m subwords, v nested words, n symbols a subword, and the capabilities t0 to t3.
 pub struct Profile {
     pub subwords: u8,

@@ -51,8 +51,8 @@ pub record Sound (t n : ℕ) (s : Series) (r : Settled) : Type 0 where
   pub within : below n (values (r .pattern))
 
 -- both promises
-abbrev Kept : (t n L : ℕ) (s Λ : Series) → Settled → Type 0
-Kept t n L s Λ r =
+abbrev Promised : (t n L : ℕ) (s Λ : Series) → Settled → Type 0
+Promised t n L s Λ r =
     Sound t n s r × (Multiple Λ (measure s (2 * t) .Λ) → L ≡ length s (2 * t) → answer n r ≡ settle t n s)
 
 answer-nothing : (n : ℕ) (r : Settled) → Nothing r → answer n r ≡ none
@@ -82,13 +82,13 @@ pub prefix-is : (m : ℕ) (l : List ℕ) (f : Series) → m ≤ size l → bytes
 prefix-is m l f h e = read-prefix of 0 of-zero m l h ∙ ap (cut m) e ∙ below-cut-eq m (cut m f) (below-cut m f)
 
 module _ (t n L : ℕ) (s Λ : Series) (r : Settled) (hn : n ≤ 255) where
-  pub long : Nothing r → t < L → Kept t n L s Λ r
+  pub long : Nothing r → t < L → Promised t n L s Λ r
   long z h = (sound-nothing t n s r z, λ scaled is. answer-nothing n r z ∙ sym (settle-long t n s hn (omega arith)))
 
   -- after a walk over k coefficients
   module _ (k : ℕ) (Ω : Series) (whole : Bool) (pattern : List Gf) (enough : L < k)
       (w : Walked n k L Λ Ω whole pattern) where
-    pub few : Nothing r → whole ≡ false → Kept t n L s Λ r
+    pub few : Nothing r → whole ≡ false → Promised t n L s Λ r
     few z h = (
       sound-nothing t n s r z,
       λ scaled is.
@@ -124,7 +124,7 @@ module _ (t n L : ℕ) (s Λ : Series) (r : Settled) (hn : n ≤ 255) where
           (omega arith) (omega arith) p h)
 
     pub refused : Nothing r → L ≤ t → Ω ≡ cut L (Λ ⊠ s) → whole ≡ true
-        → holds (explains? t n s (values pattern)) ≡ false → Kept t n L s Λ r
+        → holds (explains? t n s (values pattern)) ≡ false → Promised t n L s Λ r
     refused z short Ω-is all h = (
       sound-nothing t n s r z,
       λ scaled is. answer-nothing n r z ∙ sym (settle-test t n s (values pattern) hn (right short Ω-is all scaled is)
@@ -134,7 +134,7 @@ module _ (t n L : ℕ) (s Λ : Series) (r : Settled) (hn : n ≤ 255) where
     -- here the locator does not matter
     pub found : r .found ≡ true → r .pattern ≡ pattern → r .count ≡ weight n (values pattern)
         → holds (explains? t n s (values pattern)) ≡ true
-        → Kept t n L s Λ r
+        → Promised t n L s Λ r
     found f p c h =
         let x : Explains t n s (values (r .pattern)) = rw p (test-passed (explains? t n s (values pattern)) h) in (
           record {

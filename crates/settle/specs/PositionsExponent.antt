@@ -2,7 +2,7 @@
 --
 --   symbol e      what the byte e stands for
 --   symbols l     an array of such bytes as a series: what they stand for, then zeros
---   Table t       t holds the symbol of each byte
+--   PowerTable t       t holds the symbol of each byte
 --   Steps f s     the 32 entries of s are what the exponents of terms f lose from a position to the next: i for term i,
 --                 nothing for one that is zero
 --
@@ -58,10 +58,10 @@ entry (x ∷ l) (suc i) a b h = entry l i a b (le-of-suc-le-suc h)
 pub symbols-at : (l : List ℕ) (i : ℕ) → i < length l → symbols l i ≡ symbol (getD l i 0)
 symbols-at l i h = read-at symbol 255 l i ∙ ap symbol (entry l i 255 0 h)
 
-abbrev pub Table : List ℕ → Type 0
-Table t = (e : ℕ) → e < 256 → of (getD t e 0) ≡ symbol e
+abbrev pub PowerTable : List ℕ → Type 0
+PowerTable t = (e : ℕ) → e < 256 → of (getD t e 0) ≡ symbol e
 
-pub table-set : (l : List ℕ) → length l ≡ 256 → ((e : ℕ) → e < 255 → of (getD l e 0) ≡ pow α e) → Table (set l 255 0)
+pub table-set : (l : List ℕ) → length l ≡ 256 → ((e : ℕ) → e < 255 → of (getD l e 0) ≡ pow α e) → PowerTable (set l 255 0)
 table-set l n h e b =
     by-cases (ℕ-discrete e 255)
     (λ i. rw i (ap of (getD-set-same l 255 0 0 (omega arith)) ∙ of-zero ∙ sym symbol-none))

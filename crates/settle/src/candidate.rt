@@ -63,7 +63,7 @@ fn walk(locator: [Gf; COEFFICIENTS], numerator: &[u8], roots: usize, n: usize) -
         (r .whole) (r .pattern) ⌝ }
 {
     let k = roots + 1;
-    let values = crate::positions::values(locator, k);
+    let values = crate::positions::at_positions(locator, k);
     let odds = odd_part(locator, k);
     let mut pattern = [Gf::ZERO; POSITIONS];
     let mut missing: usize = roots;

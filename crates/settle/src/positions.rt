@@ -14,11 +14,11 @@ ghost use Rattle.polynomial.specs.Polynomial.{poly};
 ghost use Rattle.kernel.specs.ProductRow.{factor, ProductRow};
 ghost use Rattle.settling.specs.Locator.{W};
 ghost use Rattle.settle.specs.PositionsTerm.{terms};
-ghost use Rattle.settle.specs.PositionsExponent.{symbol, symbols, Table, Steps};
+ghost use Rattle.settle.specs.PositionsExponent.{symbol, symbols, PowerTable, Steps};
 ghost use Rattle.settle.specs.PositionsThird.{third, three};
 use field::Exponent;
 use field::Gf;
-use kernel::wide;
+use kernel::index;
 use polynomial::COEFFICIENTS;
 use profile::POSITIONS;
 
@@ -110,15 +110,15 @@ fn next(e: [u8; LANES], step: [u8; LANES]) -> [u8; LANES]
 
 // Term i as a symbol.
 fn term(power: &[u8; 256], e: &[u8; LANES], i: usize) -> u8
-    requires { ⌜ Table (now power) × (length (now e) ≡ 32) × (i < 32) ⌝ }
+    requires { ⌜ PowerTable (now power) × (length (now e) ≡ 32) × (i < 32) ⌝ }
     ensures { λ r. ⌜ of r ≡ symbols (now (e .entry)) i ⌝ }
 {
-    power[wide(e[i])]
+    power[index(e[i])]
 }
 
 // The sums of every third of k terms.
 fn sums(power: &[u8; 256], e: &[u8; LANES], k: usize) -> Three
-    requires { ⌜ Table (now power) × (length (now e) ≡ 32) × (k ≤ 25) × below k (symbols (now e)) ⌝ }
+    requires { ⌜ PowerTable (now power) × (length (now e) ≡ 32) × (k ≤ 25) × below k (symbols (now e)) ⌝ }
     ensures { λ r. ⌜ (of (r .a) ≡ third 0 9 (symbols (now (e .entry)))) ×
         (of (r .b) ≡ third 1 9 (symbols (now (e .entry)))) ×
         (of (r .c) ≡ third 2 9 (symbols (now (e .entry)))) ⌝ }
@@ -144,8 +144,8 @@ fn spread(row: &[u8; 256], s: Three) -> Three
         (of (r .b) ≡ three (W 85) (of (s .a)) (of (s .b)) (of (s .c))) ×
         (of (r .c) ≡ three (W 170) (of (s .a)) (of (s .b)) (of (s .c))) ⌝ }
 {
-    let b = row[wide(s.b)];
-    let c = row[wide(s.c)];
+    let b = row[index(s.b)];
+    let c = row[index(s.c)];
     Three {
         a: s.a ^ s.b ^ s.c,
         b: s.a ^ b ^ c ^ s.c,
@@ -154,7 +154,7 @@ fn spread(row: &[u8; 256], s: Three) -> Three
 }
 
 // The values of the polynomial with the first k coefficients of f at W 0 to W 254.
-pub fn values(f: [Gf; COEFFICIENTS], k: usize) -> [u8; POSITIONS]
+pub fn at_positions(f: [Gf; COEFFICIENTS], k: usize) -> [u8; POSITIONS]
     requires { ⌜ k ≤ 25 ⌝ }
     ensures { λ r. ⌜ bytes r ≡ cut 255 (λ p. value k (poly f) (W p)) ⌝ }
 {

@@ -27,7 +27,7 @@ use Rattle.code.specs.Definition.{Codeword}
 use Rattle.code.specs.Encoding.{codeword?}
 use Rattle.staged_decoding.specs.Definition.{Progress, start, stage, unsettled, round, settled, stopped}
 use Rattle.staged_decoding.specs.Definition.{stages, Report, report, accepted, failed, foreign}
-use Rattle.staged_decoding.specs.Definition.{outcome-number, judged, decode}
+use Rattle.staged_decoding.specs.Definition.{outcome-number, outcome-of, decode}
 
 -- ---- the ways on after a stage
 
@@ -117,9 +117,9 @@ module _ (p : Profile) (y : Series) where
   stages-stopped s f = stages-entered p y s (f .low) (f .entered)
       ∙ stages-stop p s (before-stage p y s) _ refl (p .nested - s) (f .many)
 
-  decode-over : (s : ℕ) → Over p y s → decode p y ≡ judged p (settled s (after-stage p y s))
+  decode-over : (s : ℕ) → Over p y s → decode p y ≡ outcome-of p (settled s (after-stage p y s))
   unfolding decode
-  decode-over s o = ap (judged p) (stages-settled s o)
+  decode-over s o = ap (outcome-of p) (stages-settled s o)
 
   accepts : (d : Series) (x : Report) → Accepts p y d x → decode p y ≡ accepted d x
   accepts d x a =
@@ -133,7 +133,7 @@ module _ (p : Profile) (y : Series) where
 
   fails : (s : ℕ) → Fails p y s → decode p y ≡ failed s
   unfolding decode
-  fails s f = ap (judged p) (stages-stopped s f)
+  fails s f = ap (outcome-of p) (stages-stopped s f)
 
   -- it is one of the three, whatever was received
   pub data Course : Type 0 where

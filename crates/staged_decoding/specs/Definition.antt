@@ -224,12 +224,12 @@ outcome-number (failed r) = 8
 outcome-number foreign = 9
 
 -- FORMAT 4.9 and 4.10: are all strips settled when staged decoding ends? Is the block then a codeword?
-abbrev pub judged : Profile → Ending → Outcome
-judged p (stopped r) = failed r
-judged p (settled r g) = cond (holds (codeword? p (g .block))) (accepted (g .block) (report p r g)) foreign
+abbrev pub outcome-of : Profile → Ending → Outcome
+outcome-of p (stopped r) = failed r
+outcome-of p (settled r g) = cond (holds (codeword? p (g .block))) (accepted (g .block) (report p r g)) foreign
 
 unfoldable pub decode : Profile → Series → Outcome
-decode p y = judged p (stages p (p .nested) 0 (start p y))
+decode p y = outcome-of p (stages p (p .nested) 0 (start p y))
 
 -- ---- what counts mean
 

@@ -36,7 +36,7 @@ use Rattle.stages.specs.declared.subword.StagedSubword.{StagedSubword}
 use Rattle.stages.specs.Report.{verdict-of, says, Has}
 use Rattle.stages.specs.SubwordDefinition.{Took, Stayed}
 use Rattle.stages.specs.declared.Staged.{Staged}
-use Rattle.stages.specs.View.{shown, view, so-far, Kept, Before, Came}
+use Rattle.stages.specs.View.{shown, view, so-far, Standing, Before, Came}
 use Rattle.stages.specs.Lines.{any-default, has, has-same, has-other, says-at, says-other, shown-set, put-stay}
 
 abbrev pub next : (r k i : ℕ) → ℕ
@@ -50,7 +50,7 @@ next-other r k i n =
 pub record Mid (p : Profile) (f : Form) (r : ℕ) (g : Progress) (k : ℕ) (b : List ℕ) (pending : List Bool)
     (lines : List Line) (t : List (List Gf)) : Type 0 where
   pub is : view b pending lines t ≡ each k (step p r) g
-  pub kept : Kept p f (next r k) (view b pending lines t) lines
+  pub kept : Standing p f (next r k) (view b pending lines t) lines
   pub rows : (i : ℕ) → i < p .subwords → below (2 * capability p r) (table t i)
 
 -- ---- what is shown of a subword
@@ -85,9 +85,9 @@ module _ (p : Profile) (f : Form) (r : ℕ) (t : List (List Gf)) where
 
   module _ (k : ℕ) (b c : List ℕ) (pending : List Bool) (lines : List Line) (low : k < p .subwords)
       (flags : k < length pending) (long : k < length lines) where
-    kept-next : (x : Bool) (l : Line) → Kept p f (next r k) (view b pending lines t) lines
+    kept-next : (x : Bool) (l : Line) → Standing p f (next r k) (view b pending lines t) lines
         → Ended f (so-far p k (suc r) (table t k) (cond x none (some (verdict-of (l .verdict))))) (l .solver)
-        → Kept p f (next r (k + 1)) (view c (set pending k x) (set lines k l) t) (set lines k l)
+        → Standing p f (next r (k + 1)) (view c (set pending k x) (set lines k l) t) (set lines k l)
     unfolding view
     kept-next x l h e = record {
       solvers = λ i y m. go i y m (ℕ-discrete i k);
@@ -200,7 +200,7 @@ module _ (p : Profile) (f : Form) (r : ℕ) (t : List (List Gf)) where
   unfolding stage
   mid-end g k b q e mid = record {
     is = is;
-    kept = subst (λ h. Kept p f (λ _. suc r) h (q .lines)) is
+    kept = subst (λ h. Standing p f (λ _. suc r) h (q .lines)) is
         (record { solvers = λ i l m. go i l m (decLt i k); rest = mid .kept .rest });
   }
     where

@@ -4,7 +4,7 @@
 --   waiting p pending         how many subwords are pending
 --   so-far p i s S o          the rounds that a solver went through, o being what its subword's line is and s the next
 --                             stage if it has none
---   Kept p f next g lines     the solvers of the lines are in the form f at the end of these rounds; the lines that are
+--   Standing p f next g lines     the solvers of the lines are in the form f at the end of these rounds; the lines that are
 --                             no subword's say clean
 --   Before p f r g lines      so it is before stage r, and the rows are zero past that stage's syndromes
 --   Came p f r g b q t        after stage r of the progress g
@@ -54,13 +54,13 @@ abbrev pub so-far : Profile → (i s : ℕ) → Series → Option staged.Line �
 so-far p i s S none = cond (ltb i (p .subwords)) (earlier p S s) []
 so-far p i s S (some l) = line-rounds p S l
 
-pub record Kept (p : Profile) (f : Form) (next : ℕ → ℕ) (g : Progress) (lines : List Line) : Type 0 where
+pub record Standing (p : Profile) (f : Form) (next : ℕ → ℕ) (g : Progress) (lines : List Line) : Type 0 where
   pub solvers : (i : ℕ) (l : Line) → Has lines i l → Ended f (so-far p i (next i) (g .row i) (g .line i)) (l .solver)
   pub rest : (i : ℕ) → p .subwords ≤ i → (g .line i ≡ none) × (says lines i ≡ staged.clean)
 
 pub record Before (p : Profile) (f : Form) (r : ℕ) (g : Progress) (lines : List Line) : Type 0 where
   pub rows : (i : ℕ) → i < p .subwords → below (2 * capability p r) (g .row i)
-  pub kept : Kept p f (λ _. r) g lines
+  pub kept : Standing p f (λ _. r) g lines
 
 -- ---- a stage
 
@@ -68,7 +68,7 @@ pub record Before (p : Profile) (f : Form) (r : ℕ) (g : Progress) (lines : Lis
 pub record Came (p : Profile) (f : Form) (r : ℕ) (g : Progress) (b : List ℕ) (q : Staged)
     (t : List (List Gf)) : Type 0 where
   pub is : view b (q .pending) (q .lines) t ≡ stage p r g
-  pub kept : Kept p f (λ _. suc r) (stage p r g) (q .lines)
+  pub kept : Standing p f (λ _. suc r) (stage p r g) (q .lines)
 
 -- ---- rounds
 

@@ -43,7 +43,7 @@ use Rattle.extend.specs.Definition.{Seen}
 use Rattle.stages.specs.declared.report.Line.{Line}
 use Rattle.stages.specs.declared.Staged.{Staged}
 use Rattle.stages.specs.Report.{says, Has, Started}
-use Rattle.stages.specs.View.{shown, view, waiting, so-far, Kept, Before, Came, Shows, Reached}
+use Rattle.stages.specs.View.{shown, view, waiting, so-far, Standing, Before, Came, Shows, Reached}
 use Rattle.stages.specs.Lines.{any-default}
 use Rattle.stages.specs.Stage.{shown-no}
 
@@ -114,7 +114,7 @@ module _ (p : Profile) (ok : Valid p) (f : Form) (r : ℕ) (small : r < p .neste
   unfolding extend
   same-line = refl
 
-  round-kept : Kept p f (λ _. suc r) g lines → Kept p f (λ _. suc r) (round p r g) lines
+  round-kept : Standing p f (λ _. suc r) g lines → Standing p f (λ _. suc r) (round p r g) lines
   round-kept h = record {
     solvers = λ i l m. subst (λ (rounds : List (List F)). Ended f rounds (l .solver)) (go i) (h .solvers i l m);
     rest = λ i m. rw same-line (h .rest i m);
@@ -149,7 +149,7 @@ pub record At (p : Profile) (f : Form) (y : Series) (r : ℕ) (b : List ℕ) (pe
   pub from : Progress
   pub is : view b pending lines t ≡ stage p r from
   pub on : stages p (p .nested) 0 (start p y) ≡ stages p (p .nested - r) r from
-  pub kept : Kept p f (λ _. suc r) (view b pending lines t) lines
+  pub kept : Standing p f (λ _. suc r) (view b pending lines t) lines
   pub rows : (i : ℕ) → i < p .subwords → below (2 * capability p r) (table t i)
 
 came-at : (p : Profile) (f : Form) (y : Series) (r : ℕ) (g : Progress) (c : List ℕ) (q : Staged) (t : List (List Gf))
@@ -160,7 +160,7 @@ came-at p f y r g c q t on rows came = record {
   from = g;
   is = came .is;
   on = on;
-  kept = subst (λ h. Kept p f (λ _. suc r) h (q .lines)) (sym (came .is)) (came .kept);
+  kept = subst (λ h. Standing p f (λ _. suc r) h (q .lines)) (sym (came .is)) (came .kept);
   rows = rows;
 }
 
@@ -221,7 +221,7 @@ module _ (p : Profile) (ok : Valid p) (f : Form) (y : Series) (r : ℕ) (b : Lis
     unfolding view
     before-next = record {
       rows = next-rows;
-      kept = subst (λ (g : Progress). Kept p f (λ _. suc r) g lines) (sym further)
+      kept = subst (λ (g : Progress). Standing p f (λ _. suc r) g lines) (sym further)
           (round-kept p ok f r (omega arith) lines (view b pending lines t) (now .kept));
     }
 

@@ -23,6 +23,7 @@ use crate::report::Line;
 use crate::report::Verdict;
 use field::Gf;
 use polynomial::SYNDROMES;
+use profile::POSITIONS;
 use profile::Profile;
 use solver::Form;
 use solver::Solver;
@@ -46,7 +47,7 @@ fn verdict_of(r: u8, count: u8) -> Verdict
 }
 
 // The pattern is added to subword i.
-fn correct(p: Profile, i: usize, pattern: [Gf; 255], block: &mut [u8])
+fn correct(p: Profile, i: usize, pattern: [Gf; POSITIONS], block: &mut [u8])
     requires { ⌜ Fits p (now block) × (i < p .subwords) ⌝ }
     ensures { λ _. ⌜ bytes (now (block .exit)) ≡
         add (p .length) i (cut (p .length) (values pattern)) (bytes (now (block .entry))) ⌝ }

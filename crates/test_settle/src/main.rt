@@ -9,7 +9,7 @@
 ghost use Prim.Native.Nat.{_≤_, _<_};
 ghost use lib.ListN.{length};
 use field::Gf;
-use kernel::wide;
+use kernel::index;
 use polynomial::SYNDROMES;
 use profile::POSITIONS;
 use settle::Settled;
@@ -95,8 +95,8 @@ fn next(input: &[u8], at: usize) -> usize
     if end - at < 2 {
         return end;
     }
-    let t = wide(input[at]);
-    let n = wide(input[at + 1]);
+    let t = index(input[at]);
+    let n = index(input[at + 1]);
     if 24 < t {
         return end;
     }

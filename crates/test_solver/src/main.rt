@@ -9,7 +9,7 @@ mod swaps;
 
 ghost use Prim.Native.Nat.{_<_};
 ghost use lib.ListN.{length};
-use kernel::wide;
+use kernel::index;
 use solver::Form;
 use solver::rounds::Progress;
 use test_support::print;
@@ -61,8 +61,8 @@ fn next(input: &[u8], at: usize) -> usize
     if n - at < 2 {
         return n;
     }
-    let rounds = wide(input[at]);
-    let total = wide(input[at + 1]);
+    let rounds = index(input[at]);
+    let total = index(input[at + 1]);
     let a = at + 2;
     let b = a + rounds;
     let c = b + total;

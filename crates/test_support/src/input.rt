@@ -1,7 +1,7 @@
 // Standard input, piece by piece. What is missing at its end is read as 0.
 ghost use Prim.Native.Nat.{_≤_, _<_};
 ghost use Rattle.io.specs.Counts.{Counts};
-use kernel::wide;
+use kernel::index;
 
 // The next byte.
 pub fn byte() -> usize
@@ -9,7 +9,7 @@ pub fn byte() -> usize
 {
     let mut space = [0u8; 1];
     io::read_full(0, &mut space);
-    wide(space[0])
+    index(space[0])
 }
 
 // A number of two bytes, high byte first.

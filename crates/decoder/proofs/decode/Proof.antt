@@ -2,7 +2,7 @@
 use mathlib.Core.Path.{sym, ap, _∙_}
 use native.Mathlib.Omega.{arith}
 use Rattle.profile.specs.Valid.{reading-passed}
-use Rattle.decoder.specs.Definition.{judged}
+use Rattle.decoder.specs.Definition.{result-of}
 use Rattle.decoder.specs.Laws.{gives-refused, gives-as}
 use borrow.Author.Needs.{needs}
 use Rattle.decoder.proofs.decode.Statement.{statement}
@@ -40,7 +40,7 @@ returns c =
     let at-admit = told .before .before in
     let given = at-admit .before .before .before .before in
     let yes = sym (at-admit .admit .ensures) ∙ told .p .given .1 in
-    let is = ap (λ a. judged a (given .args .input .now)) yes in
+    let is = ap (λ a. result-of a (given .args .input .now)) yes in
     let read = at-read .read in
     let gives = gives-as (given .args .form) _ _ _ _ (read .result) is (read .ensures) in
     (gives .answer, (gives .block, gives .report))
@@ -55,7 +55,7 @@ returns-2 c =
     let at-admit = told .before .before in
     let given = at-admit .before .before .before .before in
     let no = sym (at-admit .admit .ensures) ∙ told .q .given .1 in
-    let is = ap (λ a. judged a (given .args .input .now)) no in
+    let is = ap (λ a. result-of a (given .args .input .now)) no in
     let refuse = at-refuse .refuse in
     let form = given .args .form in
     let (answer, (same, report)) = refuse .ensures in

@@ -36,23 +36,23 @@ loop-holds c =
       read-zeros of 0 of-zero 48 (aligned first k) ∙ cut-none _ ∙ back-none first k (omega arith),
     )
 
-add-wide : tie.Need-add-wide Inv-loop μ-loop
-add-wide c = search needs
+add-index : tie.Need-add-index Inv-loop μ-loop
+add-index c = search needs
 
-sub-wide : tie.Need-sub-wide Inv-loop μ-loop
-sub-wide c = search needs
+sub-index : tie.Need-sub-index Inv-loop μ-loop
+sub-index c = search needs
 
-array-read-wide : tie.Need-array-read-wide Inv-loop μ-loop
-array-read-wide c = search needs
+array-read-index : tie.Need-array-read-index Inv-loop μ-loop
+array-read-index c = search needs
 
-wide-requires : tie.Need-wide-requires Inv-loop μ-loop
-wide-requires c κs = search needs
+index-requires : tie.Need-index-requires Inv-loop μ-loop
+index-requires c κs = search needs
 
-array-read-wide-2 : tie.Need-array-read-wide-2 Inv-loop μ-loop
-array-read-wide-2 c = search needs
+array-read-index-2 : tie.Need-array-read-index-2 Inv-loop μ-loop
+array-read-index-2 c = search needs
 
-wide-requires-2 : tie.Need-wide-requires-2 Inv-loop μ-loop
-wide-requires-2 c κs = search needs
+index-requires-2 : tie.Need-index-requires-2 Inv-loop μ-loop
+index-requires-2 c κs = search needs
 
 add-e : tie.Need-add-e Inv-loop μ-loop
 add-e c = search needs
@@ -93,10 +93,10 @@ loop-again c =
     let zech = at-zech .zech .ensures in
     let first = given .args .first in
     let k = given .args .k in
-    let up = ap (pow α) (c .before .before .wide .ensures .0) ∙ zech .at (k - (now .j + 1)) (omega arith) in
-    let down = ap (pow α) (c .before .wide2 .ensures .0) ∙ zech .at (now .j) (omega arith) in
+    let up = ap (pow α) (c .before .before .index .ensures .0) ∙ zech .at (k - (now .j + 1)) (omega arith) in
+    let down = ap (pow α) (c .before .index2 .ensures .0) ∙ zech .at (now .j) (omega arith) in
     let next =
-    exponent-more first k (now .j) (now .e) (c .before .before .wide .result) (c .before .wide2 .result) (omega arith)
+    exponent-more first k (now .j) (now .e) (c .before .before .index .result) (c .before .index2 .result) (omega arith)
     (omega arith) (now .inv .3) up down in (
       omega arith,
       length-set (now .g) _ _ ∙ now .inv .1,
@@ -122,12 +122,12 @@ generator-spec =
     μ-loop
     zech-requires
     loop-holds
-    add-wide
-    sub-wide
-    array-read-wide
-    wide-requires
-    array-read-wide-2
-    wide-requires-2
+    add-index
+    sub-index
+    array-read-index
+    index-requires
+    array-read-index-2
+    index-requires-2
     add-e
     add-e-2
     add-e-3

@@ -27,18 +27,18 @@ loop-holds c = (search needs, refl, multiple-none _ _ _)
 slice-read-to : tie.Need-slice-read-to Inv-loop μ-loop
 slice-read-to c = search needs
 
-shared-slice-read-wide : tie.Need-shared-slice-read-wide Inv-loop μ-loop
-shared-slice-read-wide c = search needs
+shared-slice-read-index : tie.Need-shared-slice-read-index Inv-loop μ-loop
+shared-slice-read-index c = search needs
 
-wide-requires : tie.Need-wide-requires Inv-loop μ-loop
-wide-requires c κs = search needs
+index-requires : tie.Need-index-requires Inv-loop μ-loop
+index-requires c κs = search needs
 
 shared-slice-read-to : tie.Need-shared-slice-read-to Inv-loop μ-loop
 shared-slice-read-to c =
-    let at-wide = c .before in
-    let at-loop = at-wide .before .before .before .before in
+    let at-index = c .before in
+    let at-loop = at-index .before .before .before .before in
     let given = at-loop .before .before .before .before in
-    omega (arith, at-wide .wide .ensures .1, given .pre .0 .long)
+    omega (arith, at-index .index .ensures .1, given .pre .0 .long)
 
 slice-write-to : tie.Need-slice-write-to Inv-loop μ-loop
 slice-write-to c = search needs
@@ -51,11 +51,11 @@ loop-less c = search needs
 
 loop-again : tie.Need-loop-again Inv-loop μ-loop
 loop-again c =
-    let at-wide = c .before in
-    let at-loop = at-wide .before .before .before .before in
+    let at-index = c .before in
+    let at-loop = at-index .before .before .before .before in
     let given = at-loop .before .before .before .before in
     let now = at-loop .loop in
-    let index = at-wide .wide in
+    let index = at-index .index in
     let row = given .args .row .now in
     let product =
     sym (read-at of 0 row (index .result))
@@ -87,8 +87,8 @@ add-multiple-spec =
     μ-loop
     loop-holds
     slice-read-to
-    shared-slice-read-wide
-    wide-requires
+    shared-slice-read-index
+    index-requires
     shared-slice-read-to
     slice-write-to
     add-i

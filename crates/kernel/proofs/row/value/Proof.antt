@@ -33,14 +33,14 @@ loop-holds c =
 sub-i : tie.Need-sub-i Inv-loop μ-loop
 sub-i c = search needs
 
-wide-requires : tie.Need-wide-requires Inv-loop μ-loop
-wide-requires c κs = search needs
+index-requires : tie.Need-index-requires Inv-loop μ-loop
+index-requires c κs = search needs
 
 shared-slice-read-v : tie.Need-shared-slice-read-v Inv-loop μ-loop
 shared-slice-read-v c =
     let at-loop = c .before .before .before in
     let given = at-loop .before .before .before in
-    omega (arith, c .before .wide .ensures .1, given .pre .long)
+    omega (arith, c .before .index .ensures .1, given .pre .long)
 
 shared-slice-read-v-2 : tie.Need-shared-slice-read-v-2 Inv-loop μ-loop
 shared-slice-read-v-2 c = search needs
@@ -53,7 +53,7 @@ loop-again c =
     let at-loop = c .before .before .before .before in
     let given = at-loop .before .before .before in
     let now = at-loop .loop in
-    let index = c .before .before .wide in
+    let index = c .before .before .index in
     let row = given .args .row .now in
     let product =
     row-at row (index .result) (given .pre) (index .ensures .1)
@@ -78,7 +78,7 @@ value-spec =
     μ-loop
     loop-holds
     sub-i
-    wide-requires
+    index-requires
     shared-slice-read-v
     shared-slice-read-v-2
     loop-less

@@ -29,8 +29,8 @@ abbrev μ-loop : tie.MeasureT-loop
 add-k : tie.Need-add-k Inv-loop μ-loop
 add-k c = search needs
 
-values-requires : tie.Need-values-requires Inv-loop μ-loop
-values-requires c κs = search needs
+at-positions-requires : tie.Need-at-positions-requires Inv-loop μ-loop
+at-positions-requires c κs = search needs
 
 odd-part-requires : tie.Need-odd-part-requires Inv-loop μ-loop
 odd-part-requires c κs = search needs
@@ -44,7 +44,7 @@ sub-if1 c = search needs
 returns : tie.Need-returns Inv-loop μ-loop
 returns c =
     let now = c .before .before .loop in
-    walked-few (now .inv .1 _ (c .before .before .before .before .values .ensures)
+    walked-few (now .inv .1 _ (c .before .before .before .before .at-positions .ensures)
     (c .before .before .before .odd-part .ensures)) _ (now .inv .0) (omega arith)
 
 array-read-t20 : tie.Need-array-read-t20 Inv-loop μ-loop
@@ -101,7 +101,7 @@ loop-again c =
 returns-2 : tie.Need-returns-2 Inv-loop μ-loop
 returns-2 c =
     let end = c .before .loop in
-    walked-all (end .inv .1 _ (c .before .before .before .values .ensures) (c .before .before .odd-part .ensures)) _
+    walked-all (end .inv .1 _ (c .before .before .before .at-positions .ensures) (c .before .before .odd-part .ensures)) _
     (end .inv .0) (omega arith)
 
 pub walk-spec : {M : Type 1} → statement M
@@ -111,7 +111,7 @@ walk-spec =
     Inv-loop
     μ-loop
     add-k
-    values-requires
+    at-positions-requires
     odd-part-requires
     loop-holds
     sub-if1

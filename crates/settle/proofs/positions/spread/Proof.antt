@@ -6,14 +6,14 @@ use borrow.Author.Needs.{needs}
 use Rattle.settle.proofs.positions.spread.Statement.{statement}
 use Rattle.settle.proofs.positions.spread.Tie as tie
 
-wide-requires : tie.Need-wide-requires
-wide-requires c κs = search needs
+index-requires : tie.Need-index-requires
+index-requires c κs = search needs
 
 element-copy-out-b : tie.Need-element-copy-out-b
 element-copy-out-b c = search needs
 
-wide-requires-2 : tie.Need-wide-requires-2
-wide-requires-2 c κs = search needs
+index-requires-2 : tie.Need-index-requires-2
+index-requires-2 c κs = search needs
 
 element-copy-out-c : tie.Need-element-copy-out-c
 element-copy-out-c c = search needs
@@ -27,9 +27,9 @@ returns c =
     let s = given .args .s in
     let row = given .args .row .now in
     let b =
-    product-at row _ (s .b) _ (given .pre .0) (given .pre .1) (second .wide .ensures .0) (second .wide .ensures .1) in
+    product-at row _ (s .b) _ (given .pre .0) (given .pre .1) (second .index .ensures .0) (second .index .ensures .1) in
     let d =
-    product-at row _ (s .c) _ (given .pre .0) (given .pre .1) (third .wide2 .ensures .0) (third .wide2 .ensures .1) in (
+    product-at row _ (s .c) _ (given .pre .0) (given .pre .1) (third .index2 .ensures .0) (third .index2 .ensures .1) in (
       of-xor _ _ ∙ ap (λ t. t ⊕ of (s .c)) (of-xor _ _) ∙ spread-zero _ _ _,
       of-xor _ _ ∙ ap (λ t. t ⊕ of (s .c)) (of-xor _ _ ∙ ap₂ _⊕_ (of-xor _ _ ∙ ap (λ t. of (s .a) ⊕ t) b) d)
           ∙ spread-one _ _ _,
@@ -40,4 +40,4 @@ returns c =
 pub spread-spec : {M : Type 1} → statement M
 spread-spec =
     tie.close
-    (tie.spec wide-requires element-copy-out-b wide-requires-2 element-copy-out-c returns)
+    (tie.spec index-requires element-copy-out-b index-requires-2 element-copy-out-c returns)

@@ -6,18 +6,18 @@ use borrow.Author.Needs.{needs}
 use Rattle.settle.proofs.positions.term.Statement.{statement}
 use Rattle.settle.proofs.positions.term.Tie as tie
 
-element-copy-out-wide : tie.Need-element-copy-out-wide
-element-copy-out-wide c = search needs
+element-copy-out-index : tie.Need-element-copy-out-index
+element-copy-out-index c = search needs
 
-wide-requires : tie.Need-wide-requires
-wide-requires c κs = search needs
+index-requires : tie.Need-index-requires
+index-requires c κs = search needs
 
 element-copy-out-result : tie.Need-element-copy-out-result
 element-copy-out-result c = search needs
 
 returns : tie.Need-returns
 returns c =
-    let index = c .before .wide in
+    let index = c .before .index in
     let given = c .before .before .before in
     let e = given .args .e .now in
     given .pre .0 (index .result) (index .ensures .1)
@@ -26,4 +26,4 @@ returns c =
 
 pub term-spec : {M : Type 1} → statement M
 term-spec =
-    tie.close (tie.spec element-copy-out-wide wide-requires element-copy-out-result returns)
+    tie.close (tie.spec element-copy-out-index index-requires element-copy-out-result returns)

@@ -13,8 +13,8 @@ use Rattle.settle.specs.PositionsExponent.{symbols, table-set, steps-ter
 use Rattle.settle.specs.PositionsThird.{three, value-three, cube-zero, cube-one, cube-two, Placed}
 use Rattle.settle.specs.PositionsThird.{placed-none, placed-more, placed-all}
 use borrow.Author.Needs.{needs}
-use Rattle.settle.proofs.positions.values.Statement.{statement}
-use Rattle.settle.proofs.positions.values.Tie as tie
+use Rattle.settle.proofs.positions.at_positions.Statement.{statement}
+use Rattle.settle.proofs.positions.at_positions.Tie as tie
 
 abbrev Inv-loop : tie.InvT-loop
 Inv-loop k power row e₀ step out₀ p₀ e out p =
@@ -130,8 +130,8 @@ returns c =
     let e : end .p ≡ 85 = omega arith in
     placed-all _ _ _ (made .exponents .ensures) (rw e at (end .inv .3))
 
-pub values-spec : {M : Type 1} → statement M
-values-spec =
+pub at-positions-spec : {M : Type 1} → statement M
+at-positions-spec =
     tie.close
     (tie.spec
     Inv-loop
