@@ -62,7 +62,8 @@ profiled-valid b p n j = admitted-valid Card b 0 0 0 p (j .profile) (omega (arit
 
 pub reading-is : (b : List ℕ) (p : Profile) (y : List ℕ) (o : ℕ) → Profiled b p (length y) → o ≡ length y
     → reading b y o ≡ concluded p (decode p (bytes y))
-reading-is b p y o j e = ap (λ a. result-of a y) (reading-admitted b (length y) o p (j .profile) (j .size) (e ∙ j .size))
+reading-is b p y o j e =
+    ap (λ a. result-of a y) (reading-admitted b (length y) o p (j .profile) (j .size) (e ∙ j .size))
 
 -- ---- accepted blocks
 
@@ -136,7 +137,8 @@ read-written b p c o j room small code =
 
 -- ---- the answer 8
 
-module _ (b : List ℕ) (p : Profile) (y : List ℕ) (o : ℕ) (j : Profiled b p (length y)) (room : o ≡ length y) (s : ℕ) where
+module _ (b : List ℕ) (p : Profile) (y : List ℕ) (o : ℕ) (j : Profiled b p (length y))
+    (room : o ≡ length y) (s : ℕ) where
   pub read-fails : answer-to (reading b y o) ≡ answer.Refused (Unsettled s) ↔ Fails p (bytes y) s
   read-fails = (
     λ e. failed-course p (bytes y) s .0 (to (decode p (bytes y)) (ap answer-to (sym is) ∙ e)),

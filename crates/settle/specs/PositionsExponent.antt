@@ -61,7 +61,8 @@ symbols-at l i h = read-at symbol 255 l i ∙ ap symbol (entry l i 255 0 h)
 abbrev pub PowerTable : List ℕ → Type 0
 PowerTable t = (e : ℕ) → e < 256 → of (getD t e 0) ≡ symbol e
 
-pub table-set : (l : List ℕ) → length l ≡ 256 → ((e : ℕ) → e < 255 → of (getD l e 0) ≡ pow α e) → PowerTable (set l 255 0)
+pub table-set : (l : List ℕ) → length l ≡ 256 → ((e : ℕ) → e < 255 → of (getD l e 0) ≡ pow α e)
+    → PowerTable (set l 255 0)
 table-set l n h e b =
     by-cases (ℕ-discrete e 255)
     (λ i. rw i (ap of (getD-set-same l 255 0 0 (omega arith)) ∙ of-zero ∙ sym symbol-none))

@@ -4,7 +4,8 @@
 --   waiting p pending         how many subwords are pending
 --   so-far p i s S o          the rounds that a solver went through, o being what its subword's line is and s the next
 --                             stage if it has none
---   Standing p f next g lines     the solvers of the lines are in the form f at the end of these rounds; the lines that are
+--   Standing p f next g lines     the solvers of the lines are in the form f at the end of these rounds; the
+--                                 lines that are
 --                             no subword's say clean
 --   Before p f r g lines      so it is before stage r, and the rows are zero past that stage's syndromes
 --   Came p f r g b q t        after stage r of the progress g

@@ -101,7 +101,8 @@ loop-again c =
 returns-2 : tie.Need-returns-2 Inv-loop μ-loop
 returns-2 c =
     let end = c .before .loop in
-    walked-all (end .inv .1 _ (c .before .before .before .at-positions .ensures) (c .before .before .odd-part .ensures)) _
+    walked-all (end .inv .1 _ (c .before .before .before .at-positions .ensures) (c .before .before .odd-part .ensures))
+    _
     (end .inv .0) (omega arith)
 
 pub walk-spec : {M : Type 1} → statement M

@@ -29,7 +29,8 @@ returns c =
     let b =
     product-at row _ (s .b) _ (given .pre .0) (given .pre .1) (second .index .ensures .0) (second .index .ensures .1) in
     let d =
-    product-at row _ (s .c) _ (given .pre .0) (given .pre .1) (third .index2 .ensures .0) (third .index2 .ensures .1) in (
+    product-at row _ (s .c) _ (given .pre .0) (given .pre .1) (third .index2 .ensures .0)
+    (third .index2 .ensures .1) in (
       of-xor _ _ ∙ ap (λ t. t ⊕ of (s .c)) (of-xor _ _) ∙ spread-zero _ _ _,
       of-xor _ _ ∙ ap (λ t. t ⊕ of (s .c)) (of-xor _ _ ∙ ap₂ _⊕_ (of-xor _ _ ∙ ap (λ t. of (s .a) ⊕ t) b) d)
           ∙ spread-one _ _ _,
