@@ -20,7 +20,7 @@ use Rattle.series.specs.Series.{Series, O, O-at, K, _⊞_, _⊠_, ⊠-ring, ⊞
 use Rattle.series.specs.Shift.{cut, cut-high, cut-⊞, cut-K-⊠}
 use Rattle.series.specs.Degree.{below-O, below-weaken, below-cut-eq}
 use Rattle.series.specs.Array.{bytes, below-read}
-pub use Rattle.kernel.specs.Copy.{zeros}
+use Rattle.kernel.specs.Copy.{zeros}
 use Rattle.series.specs.Part.{read-prefix}
 use Rattle.kernel.specs.Store.{multiple-none, multiple-more}
 use Rattle.profile.specs.declared.Profile.{Profile}

@@ -25,7 +25,7 @@ use Rattle.profile.specs.Valid.{Valid}
 use Rattle.code.specs.Definition.{subword}
 use Rattle.code.specs.Newton.{newton, newton-none, newton-suc, newton-low, newton-nonzero}
 use Rattle.code.specs.Triangle.{ratio, ratio-low, carried, carried-at, corner}
-use Rattle.block.specs.NestedHorner.{zeros}
+use Rattle.kernel.specs.Copy.{zeros}
 
 unfoldable pub pascal : ℕ → ℕ → F
 pascal zero k = 𝟏

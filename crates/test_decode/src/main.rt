@@ -18,9 +18,6 @@
 mod report;
 
 ghost use Prim.Native.Nat.{_≤_};
-ghost use mathlib.Core.Path.{_≡_};
-ghost use lib.ListN.{length};
-ghost use Rattle.io.specs.Counts.{Counts};
 use profile::Answer;
 use profile::Parsed;
 use profile::Profile;
@@ -28,30 +25,14 @@ use profile::Refusal;
 use solver::Form;
 use stages::report::Report;
 use test_support::input;
+use test_support::output;
 use test_support::print;
-
-// What an output holds before a block is read.
-const BEFORE: u8 = 170;
-
-fn filled() -> [u8; 65536]
-    ensures { λ r. ⌜ 65536 ≡ length r ⌝ }
-{
-    [BEFORE; 65536]
-}
-
-// An output of n bytes that shows what is written to it.
-fn output(n: usize) -> [u8; 65536]
-    requires { ⌜ n ≤ 65536 ⌝ }
-    ensures { λ r. ⌜ Counts n r ⌝ }
-{
-    filled()
-}
 
 // Whether an output is as it was before.
 fn kept(out: &[u8]) -> bool {
     let mut i: usize = 0;
     while i < out.len() {
-        if out[i] != BEFORE {
+        if out[i] != output::BEFORE {
             return false;
         }
         i = i + 1;
@@ -112,7 +93,7 @@ fn in_form(name: &[u8], form: Form, profile: &[u8], block: &[u8], size: usize, s
     requires { ⌜ size ≤ 65536 ⌝ }
 {
     print::text(name);
-    let mut out = output(size);
+    let mut out = output::bytes(size);
     read(form, profile, block, &mut out[..size], states);
 }
 

@@ -3,7 +3,7 @@ use mathlib.Core.Path.{ap, _∙_}
 use Rattle.series.specs.Series.{Series, _⊞_, _⊠_, zero-⊞}
 use Rattle.series.specs.Shift.{zpow}
 use Rattle.series.specs.Array.{bytes}
-use Rattle.block.specs.NestedHorner.{zeros}
+use Rattle.kernel.specs.Copy.{zeros}
 use borrow.Author.Needs.{needs}
 use Rattle.encoder.proofs.fours.padded.Statement.{statement}
 use Rattle.encoder.proofs.fours.padded.Tie as tie
