@@ -1,9 +1,14 @@
 -- From subword to subword.
 --
---   Upper p D s i      the subwords from i on of the block s are right for the data D
---   Stretch p l i k end   where the data of subword i are, and how many
-use Prim.Native.Nat.{ℕ, zero, suc, _+_, _-_, _≤_, _<_}
-use mathlib.Core.Path.{_≡_, sym, ap, _∙_}
+--   Upper p D s i               the subwords from i on of the block s are right for the data D
+--   DownTo p input out i end    so it is of the block `out` and the data `input`; the data of the others end at `end`
+--   Stretch p l i k end         where the data of subword i are, and how many
+--   Quarters p l i k one end    .. of subwords i to i + 3
+--
+-- Proved: so it is before anything is written (down-none), after one subword more (down-one) and after four more
+-- (down-four); down to subword 0 the block encodes the data (down-all).
+use Prim.Native.Nat.{ℕ, suc, _+_, _-_, _≤_, _<_}
+use mathlib.Core.Path.{_≡_, refl, sym, ap, _∙_, subst}
 use mathlib.Core.List.{List}
 use native.Mathlib.Decide.{ℕ-discrete}
 use native.Mathlib.Omega.{arith}
@@ -16,9 +21,12 @@ use Rattle.series.specs.Array.{bytes}
 use Rattle.series.specs.Part.{read-part}
 use Rattle.profile.specs.declared.Profile.{Profile}
 use Rattle.profile.specs.Definition.{checks, data-length, data-start, data-size}
-use Rattle.profile.specs.Valid.{Valid, checks-high, checks-below, data-start-most}
+use Rattle.profile.specs.FetchDefinition.{between}
+use Rattle.profile.specs.Valid.{Valid, checks-high, checks-below, data-size-is, data-start-most}
 use Rattle.code.specs.Triangle.{carried, carried-cong}
-use Rattle.code.specs.Right.{Right, right-stays, right-step}
+use Rattle.code.specs.Definition.{Encodes}
+use Rattle.code.specs.Right.{Right, right-stays, right-step, all-right}
+use Rattle.block.specs.Parts.{Fits}
 use Rattle.encoder.specs.CarrySubword.{filled, Wrote}
 use Rattle.encoder.specs.Fours.{WroteFour}
 
@@ -57,7 +65,34 @@ upper-next p ok d D old new i part w u k h l = go (ℕ-discrete k i)
     go (yes e) = rw e (wrote-right p ok d D old new i part w)
     go (no e) = right-stays p D old new k l (λ j v. w .above j (omega arith)) (u k (omega arith) l)
 
--- where the data of subword i end, l data symbols being given in all, and where they start: the numbers of a stretch
+-- written down to subword i, the data before it being the first `end`
+pub record DownTo (p : Profile) (input out : List ℕ) (i end : ℕ) : Type 0 where
+  pub fits : Fits p out
+  pub size : length input ≡ data-size p
+  pub most : i ≤ p .subwords
+  pub end-is : end ≡ data-start p i
+  pub right : Upper p (bytes input) (bytes out) i
+
+pub down-none : {p : Profile} {input out : List ℕ} → Fits p out → length input ≡ data-size p
+    → DownTo p input out (p .subwords) (length input)
+down-none {p} fits size = record {
+  fits = fits;
+  size = size;
+  most = omega arith;
+  end-is = size ∙ sym (data-size-is p (fits .valid));
+  right = λ k h l. absurd (omega arith);
+}
+
+pub down-at : {p : Profile} {input out : List ℕ} {i j end : ℕ} → i ≡ j → DownTo p input out i end
+    → DownTo p input out j end
+down-at {p} {input} {out} {end = end} e = subst (λ i. DownTo p input out i end) e
+
+pub down-all : {p : Profile} {input out : List ℕ} {i end : ℕ} → DownTo p input out i end → i ≡ 0
+    → Encodes p (bytes input) (bytes out)
+down-all {p} {input} {out} down e =
+    all-right p (down .fits .valid) (bytes input) (bytes out) (λ k l. down .right k (omega arith) l)
+
+-- where the data of subword i end, l data symbols being given in all, and where they start
 pub record Stretch (p : Profile) (l i k end : ℕ) : Type 0 where
   pub less : i < p .subwords
   pub checks-le : k ≤ p .length
@@ -66,21 +101,19 @@ pub record Stretch (p : Profile) (l i k end : ℕ) : Type 0 where
   pub size : end - (end - (p .length - k)) ≡ data-length p i
   pub end-le : end ≤ l
 
-pub stretch : (p : Profile) → Valid p → (l i k end : ℕ)
-    → 0 < i → i ≤ p .subwords → l ≡ data-size p → k ≡ checks p (i - 1) → end ≡ data-start p i
-    → Stretch p l (i - 1) k end
-stretch p ok l zero k end h m el ek ee = absurd (omega arith)
-stretch p ok l (suc i) k end h m el ek ee =
-    let f : suc i - 1 ≡ i = omega arith in
-    let ck : k ≡ checks p i = ek ∙ ap (checks p) f in
-    rw f (record {
-      less = omega arith;
-      checks-le = omega (arith, ck, checks-below p ok i);
-      length-le = omega (arith, ck, ee);
-      start = omega (arith, ck, ee);
-      size = omega (arith, ck, ee);
-      end-le = omega (arith, ee, el, data-start-most p ok (suc i) m);
-    })
+pub stretch : {p : Profile} {input out : List ℕ} {i k end : ℕ} → DownTo p input out (suc i) end → k ≡ checks p i
+    → Stretch p (length input) i k end
+stretch {p} {i = i} down ek =
+    let ok = down .fits .valid in
+    let ee = down .end-is in
+    record {
+      less = omega (arith, down .most);
+      checks-le = omega (arith, ek, checks-below p ok i);
+      length-le = omega (arith, ek, ee);
+      start = omega (arith, ek, ee);
+      size = omega (arith, ek, ee);
+      end-le = omega (arith, ee, down .size, data-start-most p ok (suc i) (down .most));
+    }
 
 -- the data of subword i as a part of all data, a being where they start
 pub part-data : (p : Profile) (i a m : ℕ) (d : List ℕ) → a ≡ data-start p i → m ≡ data-length p i → a + m ≤ length d
@@ -88,6 +121,24 @@ pub part-data : (p : Profile) (i a m : ℕ) (d : List ℕ) → a ≡ data-start 
 part-data p i a m d ea em h q l =
     ap (λ (f : Series). f q) (read-part of 0 of-zero a m d h) ∙ cut-low m _ q (omega arith) ∙ drop-at a _ q
     ∙ ap (λ a. bytes d (a + q)) ea
+
+pub down-one : {p : Profile} {input out new : List ℕ} {i k end : ℕ} → DownTo p input out (suc i) end
+    → k ≡ checks p i → length new ≡ length out
+    → Wrote p (bytes (between (end - (p .length - k)) end input)) i (bytes out) (bytes new)
+    → DownTo p input new i (end - (p .length - k))
+down-one {p} {input} {out} {new} {i} {k} {end} down ek same wrote =
+    let here = stretch down ek in
+    let start = end - (p .length - k) in
+    let ok = down .fits .valid in
+    let inside : start + (end - start) ≤ length input = omega (arith, here .end-le) in
+    record {
+      fits = record { valid = ok; size = same ∙ down .fits .size };
+      size = down .size;
+      most = omega (arith, down .most);
+      end-is = here .start;
+      right = upper-next p ok _ (bytes input) (bytes out) (bytes new) i
+          (part-data p i start (end - start) input (here .start) (here .size) inside) wrote (down .right);
+    }
 
 -- ---- four subwords at a stretch
 
@@ -100,10 +151,10 @@ back p i j one end e eo ee =
 
 -- where the data of subwords i to i + 3 start, l data symbols being given in all and those of subword i + 3
 -- ending at `end`
-pub record Quarters (p : Profile) (l i one end : ℕ) : Type 0 where
+pub record Quarters (p : Profile) (l i k one end : ℕ) : Type 0 where
   pub less : i + 4 ≤ p .subwords
   pub lengths : (j : ℕ) → i ≤ j → one ≡ data-length p j
-  pub some : 0 < one
+  pub checks-le : k ≤ p .length
   pub d-le : one ≤ end
   pub d : end - one ≡ data-start p (i + 3)
   pub c-le : one ≤ end - one
@@ -114,21 +165,17 @@ pub record Quarters (p : Profile) (l i one end : ℕ) : Type 0 where
   pub a : end - one - one - one - one ≡ data-start p i
   pub end-le : end ≤ l
 
-pub quarters : (p : Profile) → Valid p → (l i k end : ℕ)
-    → p .nested + 4 ≤ i → i ≤ p .subwords → l ≡ data-size p → k ≡ checks p (p .nested) → end ≡ data-start p i
-    → Quarters p l (i - 4) (p .length - k) end
-quarters p ok l i k end h m el ek ee =
-    let d = back p (i - 4 + 3) i (p .length - k) end (omega arith) (lengths (i - 4 + 3) (omega arith)) ee in
-    let c = back p (i - 4 + 2) (i - 4 + 3) (p .length - k) (end - (p .length - k)) (omega arith)
-    (lengths (i - 4 + 2) (omega arith)) (d .1) in
-    let b = back p (i - 4 + 1) (i - 4 + 2) (p .length - k) (end - (p .length - k) - (p .length - k)) (omega arith)
-    (lengths (i - 4 + 1) (omega arith)) (c .1) in
-    let a = back p (i - 4) (i - 4 + 1) (p .length - k) (end - (p .length - k) - (p .length - k) - (p .length - k))
-    (omega arith) (lengths (i - 4) (omega arith)) (b .1) in
+pub quarters : {p : Profile} {input out : List ℕ} {i k end : ℕ} → DownTo p input out (i + 4) end → p .nested ≤ i
+    → k ≡ checks p (p .nested) → Quarters p (length input) i k (p .length - k) end
+quarters {p} {input} {out} {i} {k} {end} down h ek =
+    let d = back p (i + 3) (i + 4) one end (omega arith) (lengths (i + 3) (omega arith)) (down .end-is) in
+    let c = back p (i + 2) (i + 3) one (end - one) (omega arith) (lengths (i + 2) (omega arith)) (d .1) in
+    let b = back p (i + 1) (i + 2) one (end - one - one) (omega arith) (lengths (i + 1) (omega arith)) (c .1) in
+    let a = back p i (i + 1) one (end - one - one - one) (omega arith) (lengths i (omega arith)) (b .1) in
     record {
-      less = omega arith;
+      less = down .most;
       lengths = lengths;
-      some = omega (arith, ek, checks-below p ok (p .nested));
+      checks-le = omega (arith, ek, checks-below p ok (p .nested));
       d-le = d .0;
       d = d .1;
       c-le = c .0;
@@ -137,10 +184,16 @@ quarters p ok l i k end h m el ek ee =
       b = b .1;
       a-le = a .0;
       a = a .1;
-      end-le = omega (arith, ee, el, data-start-most p ok i m);
+      end-le = omega (arith, down .end-is, down .size, data-start-most p ok (i + 4) (down .most));
     }
   where
-    lengths : (j : ℕ) → i - 4 ≤ j → p .length - k ≡ data-length p j
+    one : ℕ
+    one = p .length - k
+
+    ok : Valid p
+    ok = down .fits .valid
+
+    lengths : (j : ℕ) → i ≤ j → one ≡ data-length p j
     lengths j u =
         ap (λ c. p .length - c) (ek ∙ checks-high p (p .nested) (omega arith) ∙ sym (checks-high p j (omega arith)))
 
@@ -175,3 +228,33 @@ pub quarter-data : (p : Profile) (i a b one : ℕ) (d : List ℕ)
     → a ≡ b - one → one ≤ b → b ≤ length d → one ≡ data-length p i → a ≡ data-start p i
     → (q : ℕ) → q < data-length p i → bytes (take (b - a) (drop-list a d)) q ≡ bytes d (data-start p i + q)
 quarter-data p i a b one d ea h l er es = part-data p i a (b - a) d es (omega arith) (omega arith)
+
+pub down-four : {p : Profile} {input out new : List ℕ} {i k end : ℕ} → DownTo p input out (i + 4) end → p .nested ≤ i
+    → k ≡ checks p (p .nested) → length new ≡ length out
+    → let one = p .length - k in
+    WroteFour p (bytes (between (end - one - one - one - one) (end - one - one - one) input))
+    (bytes (between (end - one - one - one) (end - one - one) input))
+    (bytes (between (end - one - one) (end - one) input)) (bytes (between (end - one) end input))
+    i (bytes out) (bytes new)
+    → DownTo p input new i (end - one - one - one - one)
+down-four {p} {input} {out} {new} {i} {k} {end} down h ek same wrote =
+    let here = quarters down h ek in
+    let one = p .length - k in
+    let ok = down .fits .valid in
+    let inside = here .end-le in
+    record {
+      fits = record { valid = ok; size = same ∙ down .fits .size };
+      size = down .size;
+      most = omega (arith, down .most);
+      end-is = here .a;
+      right = upper-four p ok _ _ _ _ (bytes input) (bytes out) (bytes new) i
+          (quarter-data p i _ (end - one - one - one) one input refl (here .a-le) (omega (arith, inside))
+          (here .lengths i (omega arith)) (here .a))
+          (quarter-data p (i + 1) _ (end - one - one) one input refl (here .b-le) (omega (arith, inside))
+          (here .lengths (i + 1) (omega arith)) (here .b))
+          (quarter-data p (i + 2) _ (end - one) one input refl (here .c-le) (omega (arith, inside))
+          (here .lengths (i + 2) (omega arith)) (here .c))
+          (quarter-data p (i + 3) _ end one input refl (here .d-le) (omega (arith, inside))
+          (here .lengths (i + 3) (omega arith)) (here .d))
+          wrote (down .right);
+    }

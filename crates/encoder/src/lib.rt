@@ -3,17 +3,17 @@
 mod carry;
 mod fours;
 
-ghost use Prim.Native.Nat.{_≤_};
+ghost use Prim.Native.Nat.{suc, _+_, _≤_};
 ghost use mathlib.Core.Path.{_≡_};
 ghost use lib.ListN.{length};
 ghost use Rattle.series.specs.Array.{bytes};
-ghost use Rattle.profile.specs.Definition.{answer-of, checks as Checks, data-start, data-size as DataSize};
+ghost use Rattle.profile.specs.Definition.{answer-of, checks as Checks, data-size as DataSize};
 ghost use Rattle.profile.specs.Questions.{writing};
 ghost use Rattle.divider.specs.GeneratorTable.{Table};
 ghost use Rattle.code.specs.Definition.{Encodes};
 ghost use Rattle.block.specs.Parts.{Fits};
 ghost use Rattle.encoder.specs.Definition.{written};
-ghost use Rattle.encoder.specs.Write.{Upper};
+ghost use Rattle.encoder.specs.Write.{DownTo};
 use profile::Answer;
 use profile::Parsed;
 use profile::Profile;
@@ -26,34 +26,68 @@ struct Left {
     symbols: usize,
 }
 
-// Writes four subwords at a time, while so many are left that nothing is carried to.
-fn write_fours(p: Profile, t: &[u64], k: usize, input: &[u8], out: &mut [u8]) -> Left
-    requires { ⌜ Fits p (now out) × (length (now input) ≡ DataSize p)
-        × (k ≡ Checks p (p .nested)) × Table 0 k (now t) ⌝ }
-    ensures { λ r. ⌜ (r .subwords ≤ p .subwords) × (r .symbols ≡ data-start p (r .subwords))
-        × Upper p (bytes (now (input .entry))) (bytes (now (out .exit))) (r .subwords) ⌝ }
+// Writes subword i once those above it are written. Its data end at `end`; where they start is handed back.
+fn write_one(
+    p: Profile,
+    t: &[u64],
+    k: usize,
+    i: usize,
+    input: &[u8],
+    end: usize,
+    out: &mut [u8],
+) -> usize
+    requires { ⌜ DownTo p (now input) (now out) (suc i) end × (k ≡ Checks p i) × Table 0 k (now t) ⌝ }
+    ensures { λ s. ⌜ DownTo p (now (input .entry)) (now (out .exit)) i s ⌝ }
+{
+    let start = end - (p.length as usize - k);
+    crate::carry::write_subword(p, t, i, &input[start..end], out);
+    start
+}
+
+// Writes subwords i to i + 3, to which nothing is carried, in the same way.
+fn write_four(
+    p: Profile,
+    t: &[u64],
+    k: usize,
+    i: usize,
+    input: &[u8],
+    end: usize,
+    out: &mut [u8],
+) -> usize
+    requires { ⌜ DownTo p (now input) (now out) (i + 4) end × (p .nested ≤ i) × (k ≡ Checks p (p .nested))
+        × Table 0 k (now t) ⌝ }
+    ensures { λ s. ⌜ DownTo p (now (input .entry)) (now (out .exit)) i s ⌝ }
 {
     let one = p.length as usize - k;
+    let d = end - one;
+    let c = d - one;
+    let b = c - one;
+    let a = b - one;
+    crate::fours::write_four(
+        p,
+        t,
+        i,
+        &input[a..b],
+        &input[b..c],
+        &input[c..d],
+        &input[d..end],
+        out,
+    );
+    a
+}
+
+// Writes four subwords at a time, while so many are left to which nothing is carried.
+fn write_fours(p: Profile, t: &[u64], k: usize, input: &[u8], out: &mut [u8]) -> Left
+    requires { ⌜ Fits p (now out) × (length (now input) ≡ DataSize p) × (k ≡ Checks p (p .nested))
+        × Table 0 k (now t) ⌝ }
+    ensures { λ r. ⌜ DownTo p (now (input .entry)) (now (out .exit)) (r .subwords) (r .symbols) ⌝ }
+{
     let least = p.nested as usize + 4;
     let mut end = input.len();
     let mut i = p.subwords as usize;
     while i >= least {
         i = i - 4;
-        let d = end - one;
-        let c = d - one;
-        let b = c - one;
-        let a = b - one;
-        crate::fours::write_four(
-            p,
-            t,
-            i,
-            &input[a..b],
-            &input[b..c],
-            &input[c..d],
-            &input[d..end],
-            out,
-        );
-        end = a;
+        end = write_four(p, t, k, i, input, end, out);
     }
     Left {
         subwords: i,
@@ -61,12 +95,11 @@ fn write_fours(p: Profile, t: &[u64], k: usize, input: &[u8], out: &mut [u8]) ->
     }
 }
 
-// The whole block. A table is made for each number of check symbols.
+// Writes the whole block. A table is made for each number of check symbols.
 fn write(p: Profile, input: &[u8], out: &mut [u8])
     requires { ⌜ Fits p (now out) × (length (now input) ≡ DataSize p) ⌝ }
     ensures { λ _. ⌜ Encodes p (bytes (now (input .entry))) (bytes (now (out .exit))) ⌝ }
 {
-    let n = p.length as usize;
     let mut t = divider::generator::blank();
     let mut made = p.checks(p.nested) as usize;
     divider::generator::table(0, made, &mut t);
@@ -78,9 +111,7 @@ fn write(p: Profile, input: &[u8], out: &mut [u8])
         let k = p.checks(i as u8) as usize;
         divider::generator::prepare(&mut t, made, k);
         made = k;
-        let start = end - (n - k);
-        crate::carry::write_subword(p, &t, i, &input[start..end], out);
-        end = start;
+        end = write_one(p, &t, k, i, input, end, out);
     }
 }
 

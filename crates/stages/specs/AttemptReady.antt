@@ -1,45 +1,29 @@
 -- The solver of a subword from stage to stage.
 --
--- Proved, for a valid profile: a solver at its start is ready for stage 0 (ready-start), and one at the end of stage r
--- for stage r + 1 (ready-next); one that is ready, taken through the syndromes that the stage adds, is at the end of
--- the stage (ready-advance), and what it has found there is what settles the subword (kept).
-use Prim.Native.Nat.{ℕ, zero, suc, _-_, _*_, _≤_, _<_}
+-- Proved, for a valid profile: a solver that is ready for a stage, taken through the syndromes that the stage adds, is
+-- at the end of the stage (ready-advance), and what it has found there is what settles the subword (kept).
+use Prim.Native.Nat.{ℕ, zero, suc, _-_, _*_, _≤_}
 use mathlib.Core.Path.{_≡_, refl, ap, subst}
 use mathlib.Core.Logic.{_≢_}
 use native.Mathlib.Omega.{arith}
 use Rattle.series.specs.Series.{Series}
-use Rattle.series.specs.Degree.{below}
 use Rattle.key_equation.specs.Run.{joined, events, after}
-use Rattle.key_equation.specs.Ahead.{Agree}
 use Rattle.key_equation.specs.Ends.{finish}
 use Rattle.profile.specs.declared.Profile.{Profile}
 use Rattle.profile.specs.Definition.{capability}
 use Rattle.profile.specs.Valid.{Valid}
 use Rattle.solver.specs.declared.Form.{Form}
 use Rattle.solver.specs.declared.Solver.{Solver}
-use Rattle.solver.specs.Solver.{form-of, Is}
 use Rattle.settling.specs.Definition.{settle}
 use Rattle.settle.specs.declared.Settled.{Settled}
 use Rattle.settle.specs.Answer.{answer, Sound}
 use Rattle.staged_decoding.specs.Definition.{rounds-of}
-use Rattle.staged_decoding.specs.Rounds.{rounds-joined, rounds-cong}
-use Rattle.solver.specs.ContinuationDefinition.{Ended, Advanced, ended-start}
+use Rattle.staged_decoding.specs.Rounds.{rounds-joined}
+use Rattle.solver.specs.ContinuationDefinition.{Ended, Advanced}
 use Rattle.solver.specs.ContinuationStages.{stage-first, stage-next}
 use Rattle.stages.specs.AttemptDefinition.{seen-before, Ready, Tried}
 
-pub ready-start : (p : Profile) (f : Form) (S : Series) (s : Solver)
-    → Is f 0 s (form-of f .start) → below (2 * capability p 0) S → Ready p f 0 S s
-ready-start p f S s is past = record { ended = ended-start f s is; past = past }
-
 module _ (p : Profile) (ok : Valid p) (f : Form) (S : Series) (s : Solver) where
-  -- T is the row as it was
-  pub ready-next : (r : ℕ) (T : Series) → r < p .nested → Ended f (rounds-of p T r) s → Agree (2 * capability p r) T S
-      → below (2 * capability p (suc r)) S → Ready p f (suc r) S s
-  ready-next r T h ended agree past = record {
-    ended = subst (λ rounds. Ended f rounds s) (rounds-cong p ok T S r (omega arith) agree) ended;
-    past = past;
-  }
-
   pub ready-advance : (r : ℕ) (q : Solver)
       → r ≤ p .nested → Advanced (seen-before p r) (2 * capability p r) S s q → Ready p f r S s
       → Ended f (rounds-of p S r) q
