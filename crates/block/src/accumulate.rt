@@ -11,7 +11,7 @@ ghost use Rattle.block.specs.Parts.{Fits};
 use field::Gf;
 use profile::Profile;
 
-// Subword i of a block is added to the word.
+// Adds subword i of a block to the word.
 pub fn add_subword(p: Profile, block: &[u8], i: usize, word: &mut [u8])
     requires { ⌜ Fits p (now block) × (i < p .subwords) × (p .length ≤ length (now word)) ⌝ }
     ensures { λ _. ⌜ bytes (now (word .exit)) ≡
@@ -23,7 +23,7 @@ pub fn add_subword(p: Profile, block: &[u8], i: usize, word: &mut [u8])
     kernel::add(&block[a..e], &mut word[..n]);
 }
 
-// c times it, by a row of products.
+// Adds c times subword i to the word, by a row of products.
 fn add_by_row(p: Profile, c: Gf, block: &[u8], i: usize, word: &mut [u8])
     requires { ⌜ Fits p (now block) × (i < p .subwords) × (p .length ≤ length (now word)) ⌝ }
     ensures { λ _. ⌜ bytes (now (word .exit)) ≡

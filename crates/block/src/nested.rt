@@ -11,7 +11,7 @@ ghost use Rattle.block.specs.Parts.{Fits};
 use profile::POSITIONS;
 use profile::Profile;
 
-// α times each symbol.
+// Doubles each symbol: α times it.
 fn double(word: &mut [u8])
     ensures { λ _. ⌜ bytes (now (word .exit)) ≡ K α ⊠ bytes (now (word .entry)) ⌝ }
 {

@@ -25,7 +25,7 @@ fn row(r: [u8; SYNDROMES], k: usize) -> [Gf; SYNDROMES]
     divider::evaluation::at_roots(&r[..k], k)
 }
 
-// The rows of the four subwords from i on go into the table.
+// Stores the rows of the four subwords from i on in the table.
 fn four(
     p: Profile,
     t: &[u64],
@@ -65,7 +65,7 @@ fn four(
     out
 }
 
-// The row of subword i goes into the table.
+// Stores the row of subword i in the table.
 fn one(
     p: Profile,
     t: &[u64],

@@ -15,17 +15,17 @@ use profile::Answer;
 use profile::Profile;
 use solver::Form;
 
-// The entries of a table.
+// How many entries a table has.
 pub const TABLE: usize = divider::generator::TABLE;
 
-// Room for a block.
+// An array for a block, all zeros.
 fn blank() -> [u8; SECTION]
     ensures { λ r. ⌜ length r ≡ 2040 ⌝ }
 {
     [0u8; SECTION]
 }
 
-// The line of block i, from what is answered and reported.
+// Prints the line of block i, from what is answered and reported.
 fn told(i: u16, a: Answer, last: u8, changed: u16, line: &mut [u8; LINE]) -> usize
     ensures { λ n. ⌜ Printed (Told i a last changed) (now (line .entry)) n (now (line .exit)) ⌝ }
 {
@@ -35,7 +35,7 @@ fn told(i: u16, a: Answer, last: u8, changed: u16, line: &mut [u8; LINE]) -> usi
     }
 }
 
-// The tables for block i: those that are kept, if a block came before it.
+// Makes the tables for block i, unless they are kept and a block came before it.
 fn prepare(p: Profile, i: u16, kept: bool, t: &mut [u64; TABLE], u: &mut [u64; TABLE])
     requires { ⌜ Valid p × (kept ≡ true → 0 < i → Tables p (now t) (now u)) ⌝ }
     ensures { λ _. ⌜ Tables p (now (t .exit)) (now (u .exit)) ⌝ }

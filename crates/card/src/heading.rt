@@ -11,7 +11,7 @@ use profile::Parsed;
 use profile::Profile;
 use profile::Refusal;
 
-// A card is refused: its last line.
+// Refuses the card by its last line.
 pub fn refuse(q: u8, line: &mut [u8; LINE]) -> Judged
     ensures { λ t. ⌜ Takes (refusal q) (now (line .entry)) t (now (line .exit)) ⌝ }
 {
@@ -22,7 +22,7 @@ pub fn refuse(q: u8, line: &mut [u8; LINE]) -> Judged
     }
 }
 
-// A profile has seven bytes.
+// Judges the byte that says how many bytes the profile has.
 pub fn judge_size(n: u8, line: &mut [u8; LINE]) -> Judged
     ensures { λ t. ⌜ Takes (size-step n) (now (line .entry)) t (now (line .exit)) ⌝ }
 {
@@ -35,6 +35,7 @@ pub fn judge_size(n: u8, line: &mut [u8; LINE]) -> Judged
     }
 }
 
+// Judges the profile.
 pub fn judge_bytes(bytes: &[u8], line: &mut [u8; LINE]) -> Judged
     ensures { λ t. ⌜ Takes (profile-step (profile-of (now (bytes .entry)))) (now (line .entry)) t (now (line .exit)) ⌝ }
 {
@@ -47,7 +48,7 @@ pub fn judge_bytes(bytes: &[u8], line: &mut [u8; LINE]) -> Judged
     }
 }
 
-// The high byte of the number of blocks comes first.
+// Judges the number of blocks, the high byte of which comes first, and prints it.
 pub fn judge_count(p: Profile, high: u8, low: u8, line: &mut [u8; LINE]) -> Judged
     ensures { λ t. ⌜ Takes (count-step p (256 * high + low)) (now (line .entry)) t (now (line .exit)) ⌝ }
 {

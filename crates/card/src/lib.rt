@@ -18,20 +18,21 @@ use crate::section::Section;
 use listing::LINE;
 use profile::Profile;
 
-// The entries of a table.
+// How many entries a table has.
 pub const TABLE: usize = crate::block_line::TABLE;
 
-// The number of a card of which a section is not whole.
+// The number of a card that has a section which is not whole.
 const CUT: u8 = 11;
 
-// A byte follows the last section.
+// The number of a card that has a byte after its last section.
 const BEYOND: u8 = 12;
 
-// Room for a table.
+// An array for a table, all zeros.
 fn blank() -> [u64; TABLE] {
     [0u64; TABLE]
 }
 
+// Judges block i out of k, and prints its line.
 fn judge_block(
     p: Profile,
     i: u16,
@@ -54,7 +55,7 @@ fn judge_block(
     }
 }
 
-// A section that is whole.
+// Judges a section that is whole.
 fn whole(
     s: Section,
     kept: bool,
@@ -80,7 +81,7 @@ fn whole(
     }
 }
 
-// A section that is not whole.
+// Judges a section that is not whole: the card may end there, or it is refused.
 fn cut(s: Section, line: &mut [u8; LINE]) -> Judged
     ensures { λ t. ⌜ Takes (Cut s) (now (line .entry)) t (now (line .exit)) ⌝ }
 {

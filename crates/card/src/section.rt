@@ -137,7 +137,7 @@ pub fn may_end(s: Section) -> bool
     kinds(s) <= 1
 }
 
-// Block i out of k, or the end.
+// The section of block i out of k, or the end if there is no such block.
 pub fn block_or_end(p: Profile, i: u16, k: u16) -> Section
     ensures { λ s. ⌜ s ≡ from p i k ⌝ }
 {

@@ -1,5 +1,5 @@
 // Reading a block of an accepted profile: staged decoding, the block with its report, or a refusal. What the promises
-// speak of stands in specs/PreparedDefinition.antt.
+// speak of stands in specs/Definition.antt.
 ghost use Prim.Native.Nat.{_*_};
 ghost use mathlib.Core.Path.{_≡_};
 ghost use mathlib.Core.Bool.{true};
@@ -26,7 +26,7 @@ use solver::Form;
 use stages::Ending;
 use stages::report::Report;
 
-// A refusal comes with the empty report.
+// What a reading hands back: the answer, and the report, which is the empty one for a refusal.
 pub struct Reading {
     pub answer: Answer,
     pub report: Report,
@@ -45,7 +45,7 @@ pub fn refuse(q: Refusal, form: Form, out: &mut [u8]) -> Reading
     }
 }
 
-// Room for a block.
+// An array for a block, all zeros.
 fn blank() -> [u8; SYMBOLS] {
     [0u8; SYMBOLS]
 }
@@ -96,7 +96,7 @@ fn decode_copy(
 }
 
 // Reads a block of an accepted profile, by its tables. A codeword goes out as it came, and no stage is entered; for any
-// other block room for a copy is made.
+// other block an array for a copy is made.
 pub fn read(p: Profile, form: Form, t: &[u64], u: &[u64], input: &[u8], out: &mut [u8]) -> Reading
     requires { ⌜ Fits p (now input) × (length (now out) ≡ length (now input)) × Tables p (now t) (now u) ⌝ }
     ensures { λ r. ⌜ Gives form (concluded p (Decode p (bytes (now (input .entry)))))

@@ -82,7 +82,7 @@ fn carried(p: Profile, i: usize, block: &[u8]) -> [u8; POSITIONS]
     word
 }
 
-// The data plus e, from position k on.
+// Puts the data plus e into the word, from position k on.
 pub fn place(k: usize, e: &[u8], input: &[u8], word: &mut [u8])
     requires { ⌜ (length (now word) ≡ k + length (now input)) × (length (now e) ≡ length (now word)) ⌝ }
     ensures { λ _. ⌜ drop k (bytes (now (word .exit))) ≡
@@ -95,7 +95,7 @@ pub fn place(k: usize, e: &[u8], input: &[u8], word: &mut [u8])
     }
 }
 
-// The word is e plus the Reed-Solomon word of the data plus e.
+// Fills the word with e plus the Reed-Solomon word of the data plus e.
 fn fill(t: &[u64], k: usize, e: &[u8], input: &[u8], word: &mut [u8])
     requires { ⌜ Table 0 k (now t) × (k ≤ 48) × (length (now word) ≡ k + length (now input))
         × (length (now e) ≡ length (now word)) ⌝ }
@@ -107,7 +107,7 @@ fn fill(t: &[u64], k: usize, e: &[u8], input: &[u8], word: &mut [u8])
     kernel::add(e, word);
 }
 
-// Subword i, once those above it are written.
+// Writes subword i, once those above it are written.
 pub fn write_subword(p: Profile, t: &[u64], i: usize, input: &[u8], out: &mut [u8])
     requires { ⌜ Fits p (now out) × (i < p .subwords) × Table 0 (Checks p i) (now t)
         × (length (now input) ≡ DataLength p i) ⌝ }

@@ -15,7 +15,7 @@ use divider::reed_solomon::FourResidues;
 use profile::POSITIONS;
 use profile::Profile;
 
-// One list is added to a word, from position `at` on.
+// Adds a list to a word, from position `at` on.
 fn join(at: usize, from: &[u8], word: &mut [u8])
     requires { ⌜ at + length (now from) ≤ length (now word) ⌝ }
     ensures { λ _. ⌜ bytes (now (word .exit)) ≡ bytes (now (word .entry)) ⊞ zpow at ⊠ bytes (now (from .entry)) ⌝ }
@@ -27,7 +27,7 @@ fn join(at: usize, from: &[u8], word: &mut [u8])
     }
 }
 
-// The data from position k on, zeros before and after.
+// The word that has the data from position k on, zeros before and after.
 fn padded(k: usize, input: &[u8]) -> [u8; POSITIONS]
     requires { ⌜ k + length (now input) ≤ 255 ⌝ }
     ensures { λ r. ⌜ bytes r ≡ zpow k ⊠ bytes (now (input .entry)) ⌝ }
@@ -51,7 +51,7 @@ fn remainders(t: &[u64], n: usize, k: usize, a: &[u8], b: &[u8], c: &[u8], d: &[
     divider::reed_solomon::residues(t, 0, k, &w[..n], &x[..n], &y[..n], &z[..n])
 }
 
-// Subword i, r being the remainder of its data.
+// Writes subword i, r being the remainder of its data.
 fn write_known(p: Profile, k: usize, r: &[u8], i: usize, input: &[u8], out: &mut [u8])
     requires { ⌜ Fits p (now out) × (p .nested ≤ i) × (i < p .subwords) × (k ≡ Checks p i)
         × (length (now input) ≡ DataLength p i) × Known (p .length) k (now input) (now r) ⌝ }
@@ -66,7 +66,7 @@ fn write_known(p: Profile, k: usize, r: &[u8], i: usize, input: &[u8], out: &mut
     crate::carry::place(0, &zeros[..n], &word[..n], &mut out[a..b]);
 }
 
-// Subwords i to i + 3 with these data, from the last to the first.
+// Writes subwords i to i + 3 with these data, from the last to the first.
 pub fn write_four(
     p: Profile,
     t: &[u64],

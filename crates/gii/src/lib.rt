@@ -52,7 +52,7 @@ pub extern "C" fn gii_encode(profile: &[u8], data: &[u8], out: &mut [u8]) -> u8
 
 // ---- reading
 
-// 1 is lookahead, 2 scaled, any other number plain.
+// The form of that number: 1 is lookahead, 2 scaled, any other number plain.
 fn form_of(f: u8) -> Form
     ensures { λ r. ⌜ r ≡ form-of f ⌝ }
 {

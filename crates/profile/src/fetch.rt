@@ -11,7 +11,7 @@ use crate::Parsed;
 use crate::Profile;
 use crate::questions::Caller;
 
-// The number of a fetch.
+// The answer to a fetch of subword i.
 pub fn answer(profile: &[u8], block: &[u8], i: usize) -> Answer
     ensures { λ a. ⌜ a ≡ answer-of (fetching (now (profile .entry)) (length (now (block .entry))) i) ⌝ }
 {
@@ -21,7 +21,7 @@ pub fn answer(profile: &[u8], block: &[u8], i: usize) -> Answer
     }
 }
 
-// The data positions of subword i.
+// The data positions of subword i, as a part of the block.
 fn positions<'a>(p: Profile, block: &'a [u8], i: usize) -> &'a [u8]
     requires { ⌜ Within p (length (now block)) i ⌝ }
     ensures { λ r. ⌜ now r ≡ Part (Parsed.Accepted p) i (now (block .entry)) ⌝ }
@@ -34,7 +34,7 @@ fn positions<'a>(p: Profile, block: &'a [u8], i: usize) -> &'a [u8]
     &block[data..end]
 }
 
-// The data of subword i, none if the fetch is refused.
+// The data of subword i as a part of the block, an empty one if the fetch is refused.
 pub fn part<'a>(profile: &[u8], block: &'a [u8], i: usize) -> &'a [u8]
     ensures { λ r. ⌜ now r ≡
         Part (fetching (now (profile .entry)) (length (now (block .entry))) i) i (now (block .entry)) ⌝ }

@@ -13,6 +13,7 @@ pub struct Sizes {
     pub payload: usize,
 }
 
+// The sizes of a block and of its data.
 pub fn sizes_of(profile: &[u8]) -> Sizes
     ensures block { λ s. ⌜ s .block ≡ if-accepted BlockSize (profile-of (now (profile .entry))) ⌝ }
     ensures payload { λ s. ⌜ s .payload ≡ if-accepted DataSize (profile-of (now (profile .entry))) ⌝ }
@@ -29,13 +30,14 @@ pub fn sizes_of(profile: &[u8]) -> Sizes
     }
 }
 
-// Where the data of a subword start.
+// Where the data of subword i start in a block.
 fn start(p: Profile, i: u8) -> usize
     ensures { λ n. ⌜ n ≡ Start p i ⌝ }
 {
     i as usize * p.length as usize + p.checks(i) as usize
 }
 
+// Where the data of subword i start in a block, 0 if the profile is refused.
 pub fn accepted_start(profile: &[u8], i: u8) -> usize
     ensures { λ n. ⌜ n ≡ if-accepted (λ p. Start p i) (profile-of (now (profile .entry))) ⌝ }
 {

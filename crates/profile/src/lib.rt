@@ -31,7 +31,7 @@ pub struct Profile {
     pub t3: u8,
 }
 
-// The questions that said no.
+// The refusals, each after the question that said no.
 pub enum Refusal {
     ProfileSize,
     Subwords,
@@ -57,7 +57,7 @@ pub enum Answer {
     Refused(Refusal),
 }
 
-// The number of a refusal.
+// The number of a refusal: FORMAT 4.
 pub fn number(r: Refusal) -> u8
     ensures { λ n. ⌜ n ≡ number-of r ⌝ }
 {
@@ -76,7 +76,7 @@ pub fn number(r: Refusal) -> u8
 }
 
 impl Answer {
-    // 0, or the number of the refusal.
+    // The number of an answer: 0, or that of the refusal.
     pub fn number(self) -> u8
         ensures { λ n. ⌜ n ≡ answer-number self ⌝ }
     {
@@ -88,7 +88,7 @@ impl Answer {
 }
 
 impl Profile {
-    // t_r, 0 past t_3.
+    // The capability t_r, 0 past t_3.
     pub fn capability(self, r: u8) -> u8
         ensures { λ t. ⌜ t ≡ Capability self r ⌝ }
     {
@@ -107,7 +107,7 @@ impl Profile {
         0
     }
 
-    // The check symbols of subword i.
+    // How many check symbols subword i has.
     pub fn checks(self, i: u8) -> u16
         ensures { λ n. ⌜ n ≡ Checks self i ⌝ }
     {
@@ -124,7 +124,7 @@ impl Profile {
         product(self.subwords, self.length)
     }
 
-    // t_1 + .. + t_v
+    // The sum of t_1 to t_v.
     fn sum(self) -> usize
         ensures { λ n. ⌜ n ≡ Sum self (self .nested) ⌝ }
         ensures small { λ n. ⌜ n < 2 ^ 16 ⌝ }
@@ -138,7 +138,7 @@ impl Profile {
         n
     }
 
-    // The subwords from v on: m - v.
+    // How many subwords there are from v on: m - v.
     fn others(self) -> u8
         ensures { λ n. ⌜ n ≡ self .subwords - self .nested ⌝ }
     {
@@ -148,7 +148,7 @@ impl Profile {
         self.subwords - self.nested
     }
 
-    // The data symbols of a block.
+    // How many data symbols a block has.
     pub fn data_size(self) -> usize
         ensures { λ n. ⌜ n ≡ DataSize self ⌝ }
     {
@@ -166,7 +166,7 @@ fn product(a: u8, b: u8) -> usize
     a as usize * b as usize
 }
 
-// a - b, or 0.
+// The difference a - b, or 0 if b is more.
 fn minus(a: usize, b: usize) -> usize
     ensures { λ d. ⌜ d ≡ a - b ⌝ }
 {

@@ -12,7 +12,7 @@ use crate::Parsed;
 use crate::Profile;
 use crate::Refusal;
 
-// Who asks.
+// Who asks the questions.
 pub enum Caller {
     Encoder,
     Decoder,
@@ -29,6 +29,7 @@ pub struct Lent {
     pub subword: usize,
 }
 
+// Whether the caller writes blocks.
 fn encodes(c: Caller) -> bool
     ensures { λ b. ⌜ b ≡ Encodes c ⌝ }
 {
@@ -40,6 +41,7 @@ fn encodes(c: Caller) -> bool
     }
 }
 
+// Whether the caller reads blocks.
 fn decodes(c: Caller) -> bool
     ensures { λ b. ⌜ b ≡ Decodes c ⌝ }
 {
@@ -51,6 +53,7 @@ fn decodes(c: Caller) -> bool
     }
 }
 
+// Whether the caller fetches the data of a subword.
 fn fetches(c: Caller) -> bool
     ensures { λ b. ⌜ b ≡ Fetches c ⌝ }
 {
@@ -62,7 +65,7 @@ fn fetches(c: Caller) -> bool
     }
 }
 
-// m from 1 to 8.
+// Whether m is from 1 to 8.
 fn subwords(p: Profile) -> bool
     ensures { λ b. ⌜ b ≡ good-subwords p ⌝ }
 {
@@ -72,7 +75,7 @@ fn subwords(p: Profile) -> bool
     p.subwords <= 8
 }
 
-// v from 0 to 3 and below m.
+// Whether v is at most 3, and below m.
 fn nested(p: Profile) -> bool
     ensures { λ b. ⌜ b ≡ good-nested p ⌝ }
 {
@@ -82,7 +85,7 @@ fn nested(p: Profile) -> bool
     p.nested < p.subwords
 }
 
-// t_r as it must be after t_(r-1), which rises says, or 0 if r is above v.
+// Whether t_r is as it must be: above t_(r-1) or no less, which `rises` says; or 0, if r is above v.
 fn step(r: u8, v: u8, rises: bool, t: u8) -> bool
     ensures { λ b. ⌜ b ≡ cond (leb r v) rises (eqb t 0) ⌝ }
 {
@@ -92,14 +95,14 @@ fn step(r: u8, v: u8, rises: bool, t: u8) -> bool
     t == 0
 }
 
-// t_v
+// The capability t_v, the last that counts.
 fn last(p: Profile) -> u8
     ensures { λ t. ⌜ t ≡ Last p ⌝ }
 {
     p.capability(p.nested)
 }
 
-// t0 at least 1, t0 < t1 ≤ .. ≤ tv ≤ 24, and 0 after tv.
+// Whether t0 is at least 1, t0 < t1 ≤ .. ≤ tv ≤ 24, and those after tv are 0.
 fn capabilities(p: Profile) -> bool
     ensures { λ b. ⌜ b ≡ good-capabilities p ⌝ }
 {
@@ -119,14 +122,14 @@ fn capabilities(p: Profile) -> bool
     last(p) <= 24
 }
 
-// n above 2 × tv.
+// Whether n is above 2 × tv.
 fn length(p: Profile) -> bool
     ensures { λ b. ⌜ b ≡ good-length p ⌝ }
 {
     2 * (last(p) as u16) < p.length as u16
 }
 
-// A question that was answered: one that is asked, and not answered by yes, refuses.
+// Takes one answer: a question that is asked, and not answered by yes, refuses the profile.
 fn answered(p: Profile, asks: bool, good: bool, q: Refusal) -> Parsed
     ensures { λ r. ⌜ r ≡ put asks good q (Parsed.Accepted p) ⌝ }
 {
@@ -138,7 +141,7 @@ fn answered(p: Profile, asks: bool, good: bool, q: Refusal) -> Parsed
     Parsed::Accepted(p)
 }
 
-// The next question, put to what was accepted so far. The first no stays.
+// Puts the next question to what was accepted so far; the first no stays.
 fn ask(a: Parsed, asks: bool, good: bool, q: Refusal) -> Parsed
     ensures { λ r. ⌜ r ≡ put asks good q a ⌝ }
 {
@@ -148,7 +151,8 @@ fn ask(a: Parsed, asks: bool, good: bool, q: Refusal) -> Parsed
     }
 }
 
-// All questions, in their order: whether the caller asks it, whether the answer is yes, and the refusal if it is not.
+// Asks all questions in their order, one a line: whether the caller asks it, whether the answer is yes, and the refusal
+// that a no gives.
 pub fn judge(caller: Caller, l: Lent, p: Profile) -> Parsed
     ensures { λ a. ⌜ a ≡ asked caller l p ⌝ }
 {
@@ -156,12 +160,8 @@ pub fn judge(caller: Caller, l: Lent, p: Profile) -> Parsed
     let d = decodes(caller);
     let f = fetches(caller);
     let size = p.block_size();
-    let a1 = ask(
-        Parsed::Accepted(p),
-        true,
-        l.profile == 7,
-        Refusal::ProfileSize,
-    );
+    let a0 = Parsed::Accepted(p);
+    let a1 = ask(a0, true, l.profile == 7, Refusal::ProfileSize);
     let a2 = ask(a1, true, subwords(p), Refusal::Subwords);
     let a3 = ask(a2, true, nested(p), Refusal::Nested);
     let a4 = ask(a3, true, capabilities(p), Refusal::Capabilities);
@@ -172,7 +172,7 @@ pub fn judge(caller: Caller, l: Lent, p: Profile) -> Parsed
     ask(a8, f, l.subword < p.subwords as usize, Refusal::Subword)
 }
 
-// Byte i, 0 where there is none.
+// Gives byte i, 0 where there is none.
 fn byte(bytes: &[u8], i: usize) -> u8
     ensures { λ b. ⌜ b ≡ getD (now (bytes .entry)) i 0 ⌝ }
 {
@@ -182,7 +182,7 @@ fn byte(bytes: &[u8], i: usize) -> u8
     0
 }
 
-// What the bytes of a profile mean.
+// Reads the bytes of a profile.
 fn read(bytes: &[u8]) -> Profile
     ensures { λ p. ⌜ p ≡ Read (now (bytes .entry)) ⌝ }
 {
@@ -211,7 +211,7 @@ pub fn admit(caller: Caller, profile: &[u8], input: usize, output: usize, subwor
     judge(caller, l, read(profile))
 }
 
-// A profile by itself: what a card asks.
+// The profile of these bytes by itself, which is what a card asks, or the first question that says no.
 pub fn parse(profile: &[u8]) -> Parsed
     ensures { λ a. ⌜ a ≡ admitted Caller.Card (now (profile .entry)) 0 0 0 ⌝ }
 {

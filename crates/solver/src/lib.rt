@@ -48,28 +48,50 @@ impl Solver {
         }
     }
 
-    // The solver with its plain form in another state.
-    fn with_plain(mut self, p: Plain) -> Solver
+    // The solver with its plain form in another state. It is built anew: a field set in a copy made reading a tenth
+    // slower, where every subword has one change.
+    fn with_plain(self, p: Plain) -> Solver
         ensures { λ q. ⌜ (q .form ≡ self .form) × (q .plain ≡ p) ⌝ }
     {
-        self.plain = p;
-        self
+        let form = self.form;
+        let l = self.lookahead;
+        let c = self.scaled;
+        Solver {
+            form: form,
+            plain: p,
+            lookahead: l,
+            scaled: c,
+        }
     }
 
     // The solver with its lookahead form in another state.
-    fn with_lookahead(mut self, p: Lookahead) -> Solver
+    fn with_lookahead(self, p: Lookahead) -> Solver
         ensures { λ q. ⌜ (q .form ≡ self .form) × (q .lookahead ≡ p) ⌝ }
     {
-        self.lookahead = p;
-        self
+        let form = self.form;
+        let a = self.plain;
+        let c = self.scaled;
+        Solver {
+            form: form,
+            plain: a,
+            lookahead: p,
+            scaled: c,
+        }
     }
 
     // The solver with its scaled form in another state.
-    fn with_scaled(mut self, p: Scaled) -> Solver
+    fn with_scaled(self, p: Scaled) -> Solver
         ensures { λ q. ⌜ (q .form ≡ self .form) × (q .scaled ≡ p) ⌝ }
     {
-        self.scaled = p;
-        self
+        let form = self.form;
+        let a = self.plain;
+        let l = self.lookahead;
+        Solver {
+            form: form,
+            plain: a,
+            lookahead: l,
+            scaled: p,
+        }
     }
 
     // Enters a round at u; s is the run's syndromes so far, zeros past the round.
