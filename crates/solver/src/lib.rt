@@ -50,47 +50,47 @@ impl Solver {
 
     // The solver with its plain form in another state. It is built anew: a field set in a copy made reading a tenth
     // slower, where every subword has one change.
-    fn with_plain(self, p: Plain) -> Solver
-        ensures { λ q. ⌜ (q .form ≡ self .form) × (q .plain ≡ p) ⌝ }
+    fn with_plain(self, next: Plain) -> Solver
+        ensures { λ q. ⌜ (q .form ≡ self .form) × (q .plain ≡ next) ⌝ }
     {
         let form = self.form;
         let l = self.lookahead;
         let c = self.scaled;
         Solver {
             form: form,
-            plain: p,
+            plain: next,
             lookahead: l,
             scaled: c,
         }
     }
 
     // The solver with its lookahead form in another state.
-    fn with_lookahead(self, p: Lookahead) -> Solver
-        ensures { λ q. ⌜ (q .form ≡ self .form) × (q .lookahead ≡ p) ⌝ }
+    fn with_lookahead(self, next: Lookahead) -> Solver
+        ensures { λ q. ⌜ (q .form ≡ self .form) × (q .lookahead ≡ next) ⌝ }
     {
         let form = self.form;
-        let a = self.plain;
+        let p = self.plain;
         let c = self.scaled;
         Solver {
             form: form,
-            plain: a,
-            lookahead: p,
+            plain: p,
+            lookahead: next,
             scaled: c,
         }
     }
 
     // The solver with its scaled form in another state.
-    fn with_scaled(self, p: Scaled) -> Solver
-        ensures { λ q. ⌜ (q .form ≡ self .form) × (q .scaled ≡ p) ⌝ }
+    fn with_scaled(self, next: Scaled) -> Solver
+        ensures { λ q. ⌜ (q .form ≡ self .form) × (q .scaled ≡ next) ⌝ }
     {
         let form = self.form;
-        let a = self.plain;
+        let p = self.plain;
         let l = self.lookahead;
         Solver {
             form: form,
-            plain: a,
+            plain: p,
             lookahead: l,
-            scaled: p,
+            scaled: next,
         }
     }
 
