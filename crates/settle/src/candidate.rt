@@ -75,7 +75,7 @@ fn walk(locator: [Gf; COEFFICIENTS], numerator: &[u8], roots: usize, n: usize) -
                 pattern: pattern,
             };
         }
-        let v = Gf(values[p]);
+        let v = values[p];
         if v.is_zero() {
             pattern[p] = forney(p, &odds[..k], numerator);
             missing = missing - 1;
