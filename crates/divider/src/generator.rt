@@ -2,7 +2,7 @@
 // What the promises speak of stands in specs/GeneratorTable.antt.
 ghost use Prim.Native.Nat.{_+_, _≤_, _<_};
 ghost use mathlib.Core.Path.{_≡_};
-ghost use lib.ListN.{length};
+ghost use lib.ListN.{length, replicate};
 ghost use Rattle.field.specs.Field.{powerTable, logTable};
 ghost use Rattle.series.specs.Array.{bytes};
 ghost use Rattle.divider.specs.Generator.{aligned};
@@ -47,14 +47,15 @@ fn generator(first: usize, k: usize) -> [u8; SYNDROMES]
     g
 }
 
-// Room for a table.
+// Room for a table: zeros.
 pub fn blank() -> [u64; TABLE]
-    ensures { λ r. ⌜ length r ≡ 1536 ⌝ }
+    ensures { λ r. ⌜ (length r ≡ 1536) × (r ≡ replicate 1536 0) ⌝ }
 {
     [0u64; TABLE]
 }
 
-// The table for words with the k roots from `first` on, made once for any number of words.
+// The table for words with the k roots from `first` on, made once for any number of words. Up to 32 roots it is the
+// first 1024 words; the others are no row's, and nothing is promised of them.
 pub fn table(first: usize, k: usize, t: &mut [u64])
     requires { ⌜ (first + k ≤ 48) × (length (now t) ≡ 1536) ⌝ }
     ensures { λ _. ⌜ Table first k (now (t .exit)) ⌝ }
@@ -63,7 +64,8 @@ pub fn table(first: usize, k: usize, t: &mut [u64])
     crate::multiples::multiples(g, k, t);
 }
 
-// The table for k check symbols, made anew unless it was made for them; made for 0 is room that holds none yet.
+// The table for k check symbols, made anew unless it was made for them; made for 0 is room that holds none yet. The
+// words after a table of 1024 are left open here too.
 pub fn prepare(t: &mut [u64], made: usize, k: usize)
     requires { ⌜ Made made (now t) × (1 ≤ k) × (k ≤ 48) ⌝ }
     ensures { λ _. ⌜ Table 0 k (now (t .exit)) ⌝ }
