@@ -1,0 +1,123 @@
+-- The data of a block, in the order in which they were written: FORMAT 3.7.
+--
+--   gathered p i b    the data of the first i subwords of the block b, one after the other
+--   data-of p b       those of all subwords
+--
+-- Proved: the data of a subword are as many as its data positions (part-length), and those of the first i subwords as
+-- many as the data before subword i (gathered-length); how one part more is gathered (gathered-more). From a block that
+-- encodes data, these data are gathered (gathered-data).
+use Prim.Native.Nat.{ℕ, zero, suc, _+_, _-_, _*_, _≤_, _<_}
+use mathlib.Core.Path.{_≡_, refl, sym, ap, ap₂, _∙_}
+use mathlib.Core.List.{List, [], _++_}
+use native.Mathlib.Numerals.{add-one}
+use native.Mathlib.Nat.{suc-mul}
+use native.Mathlib.Omega.{arith}
+use lib.ListN.{length, getD, take, drop, length-drop, length-append}
+use lib.Seq.{length-take-le, take-add, take-all, take-at, take-append-add, getD-take, getD-drop, ext-getD}
+use Rattle.field.specs.Field.{of, of-inj}
+use Rattle.series.specs.Array.{bytes, read-at}
+use Rattle.series.specs.Part.{splice}
+use Rattle.profile.specs.declared.Profile.{Profile}
+use Rattle.profile.specs.declared.Parsed.the-variants.{Accepted}
+use Rattle.profile.specs.Definition.{checks, block-size, data-size, data-length, data-start}
+use Rattle.profile.specs.Valid.{Valid, checks-below, data-size-is, data-start-most}
+use Rattle.profile.specs.FetchDefinition.{part}
+use Rattle.profile.specs.FetchLaws.{Within, end-in}
+use Rattle.code.specs.Definition.{subword, Encodes}
+use Rattle.code.specs.Block.{subword-at}
+use Rattle.block.specs.Parts.{Fits}
+
+abbrev pub gathered : Profile → ℕ → List ℕ → List ℕ
+gathered p zero b = []
+gathered p (suc i) b = gathered p i b ++ part (Accepted p) i b
+
+abbrev pub data-of : Profile → List ℕ → List ℕ
+data-of p b = gathered p (p .subwords) b
+
+-- ---- sizes
+
+pub within : (p : Profile) (b : List ℕ) (i : ℕ) → Fits p b → i < p .subwords → Within p (length b) i
+within p b i f h = record { subword = h; some = checks-below p (f .valid) i; size = f .size }
+
+pub part-length : (p : Profile) (b : List ℕ) (i : ℕ) → Fits p b → i < p .subwords
+    → length (part (Accepted p) i b) ≡ data-length p i
+part-length p b i f h =
+    let end = end-in (within p b i f h) in
+    let n : (i + 1) * p .length ≡ i * p .length + p .length = rw add-one (omega (arith, suc-mul i (p .length))) in
+    length-take-le _ (drop (i * p .length + checks p i) b)
+    (omega (arith, n, end, checks-below p (f .valid) i, length-drop (i * p .length + checks p i) b))
+    ∙ omega (arith, n, checks-below p (f .valid) i)
+
+pub gathered-length : (p : Profile) (b : List ℕ) → Fits p b → (i : ℕ) → i ≤ p .subwords
+    → length (gathered p i b) ≡ data-start p i
+gathered-length p b f zero h = refl
+gathered-length p b f (suc i) h =
+    length-append (gathered p i b) (part (Accepted p) i b)
+    ∙ ap₂ _+_ (gathered-length p b f i (omega arith)) (part-length p b i f h)
+
+-- ---- one part more
+
+-- a subword's data fit behind those of the subwords before it
+pub room : (p : Profile) (b : List ℕ) (i : ℕ) → Fits p b → i < p .subwords
+    → data-start p i + length (part (Accepted p) i b) ≤ data-size p
+room p b i f h = omega (arith, part-length p b i f h, data-start-most p (f .valid) (suc i) h)
+
+pub gathered-more : (p : Profile) (b : List ℕ) (i at n : ℕ) (out y : List ℕ) → at ≤ length out → length y ≡ n
+    → y ≡ part (Accepted p) i b → take at out ≡ gathered p i b
+    → take (at + n) (splice at n y out) ≡ gathered p (i + 1) b
+gathered-more p b i at n out y h l is before =
+    ap (λ (k : ℕ). take (k + n) (splice at n y out)) (sym (length-take-le at out h))
+    ∙ take-append-add (take at out) (y ++ drop n (drop at out)) n
+    ∙ ap₂ _++_ before (take-at y (drop n (drop at out)) n l ∙ is)
+    ∙ sym (rw (add-one {i}))
+
+-- the last part fills what is lent
+pub gathered-all : (p : Profile) (b out : List ℕ) (at i : ℕ) → Fits p b → i ≡ p .subwords → at ≡ data-start p i
+    → length out ≡ data-size p
+    → take at out ≡ gathered p i b → out ≡ data-of p b
+gathered-all p b out at i f e is size before =
+    let all : length out ≤ at = omega (arith, is, ap (data-start p) e, data-size-is p (f .valid), size) in
+    sym (take-all at out all) ∙ before ∙ ap (λ i. gathered p i b) e
+
+-- ---- data that were written
+
+module _ (p : Profile) (d b : List ℕ) (f : Fits p b) (size : length d ≡ data-size p)
+    (small-d : (i : ℕ) → getD d i 0 < 256) (small-b : (i : ℕ) → getD b i 0 < 256)
+    (e : Encodes p (bytes d) (bytes b)) where
+  symbol : (i q : ℕ) → i < p .subwords → q < data-length p i
+      → getD b (i * p .length + checks p i + q) 0 ≡ getD d (data-start p i + q) 0
+  symbol i q h l =
+      let a = i * p .length + (checks p i + q) in
+      let k = data-start p i + q in
+      let assoc : i * p .length + checks p i + q ≡ a = omega arith in
+      let same : of (getD b a 0) ≡ of (getD d k 0) =
+      sym (read-at of 0 b a) ∙ sym (subword-at (p .length) (bytes b) i (checks p i + q)) ∙ e .carries i h q l
+      ∙ read-at of 0 d k in
+      ap (λ a. getD b a 0) assoc ∙ of-inj (getD b a 0) (getD d k 0) (small-b a) (small-d k) same
+
+  part-data : (i : ℕ) → i < p .subwords
+      → part (Accepted p) i b ≡ take (data-length p i) (drop (data-start p i) d)
+  part-data i h =
+      let l = part-length p b i f h in
+      let r : length (take (data-length p i) (drop (data-start p i) d)) ≡ data-length p i =
+      length-take-le (data-length p i) (drop (data-start p i) d)
+      (omega (arith, length-drop (data-start p i) d, size, data-start-most p (f .valid) (suc i) h)) in
+      let n : (i + 1) * p .length - (i * p .length + checks p i) ≡ data-length p i =
+      rw add-one (omega (arith, suc-mul i (p .length))) in
+      ext-getD 0 _ _ (l ∙ sym r)
+      (λ q u.
+      let v : q < data-length p i = omega (arith, l) in
+      getD-take _ (drop (i * p .length + checks p i) b) q 0 (omega (arith, n))
+      ∙ getD-drop (i * p .length + checks p i) b q 0
+      ∙ symbol i q h v
+      ∙ sym (getD-take (data-length p i) (drop (data-start p i) d) q 0 v ∙ getD-drop (data-start p i) d q 0))
+
+  gathered-front : (i : ℕ) → i ≤ p .subwords → gathered p i b ≡ take (data-start p i) d
+  gathered-front zero h = refl
+  gathered-front (suc i) h =
+      ap₂ _++_ (gathered-front i (omega arith)) (part-data i h) ∙ sym (take-add (data-start p i) (data-length p i) d)
+
+  pub gathered-data : data-of p b ≡ d
+  gathered-data =
+      gathered-front (p .subwords) (omega arith)
+      ∙ take-all _ d (omega (arith, data-size-is p (f .valid), size))
