@@ -25,7 +25,7 @@ use Rattle.profile.specs.FetchDefinition.{part}
 use Rattle.profile.specs.FetchLaws.{Within, end-in}
 use Rattle.code.specs.Definition.{subword, Encodes}
 use Rattle.code.specs.Block.{subword-at}
-use Rattle.block.specs.Parts.{Fits}
+use Rattle.block.specs.Parts.{Fits, inside}
 
 abbrev pub gathered : Profile → ℕ → List ℕ → List ℕ
 gathered p zero b = []
@@ -42,11 +42,12 @@ within p b i f h = record { subword = h; some = checks-below p (f .valid) i; siz
 pub part-length : (p : Profile) (b : List ℕ) (i : ℕ) → Fits p b → i < p .subwords
     → length (part (Accepted p) i b) ≡ data-length p i
 part-length p b i f h =
-    let end = end-in (within p b i f h) in
+    let a = i * p .length + checks p i in
     let n : (i + 1) * p .length ≡ i * p .length + p .length = rw add-one (omega (arith, suc-mul i (p .length))) in
-    length-take-le _ (drop (i * p .length + checks p i) b)
-    (omega (arith, n, end, checks-below p (f .valid) i, length-drop (i * p .length + checks p i) b))
-    ∙ omega (arith, n, checks-below p (f .valid) i)
+    let size : (i + 1) * p .length - a ≡ data-length p i = omega (arith, n) in
+    length-take-le ((i + 1) * p .length - a) (drop a b)
+    (omega (arith, n, end-in (within p b i f h), checks-below p (f .valid) i, length-drop a b))
+    ∙ size
 
 pub gathered-length : (p : Profile) (b : List ℕ) → Fits p b → (i : ℕ) → i ≤ p .subwords
     → length (gathered p i b) ≡ data-start p i
@@ -55,6 +56,10 @@ gathered-length p b f (suc i) h =
     length-append (gathered p i b) (part (Accepted p) i b)
     ∙ ap₂ _+_ (gathered-length p b f i (omega arith)) (part-length p b i f h)
 
+-- there are not many
+pub data-most : (p : Profile) (b : List ℕ) → Fits p b → data-size p ≤ 2040
+data-most p b f = omega (arith, inside p b 0 f (f .valid .subwords .0), f .size)
+
 -- ---- one part more
 
 -- a subword's data fit behind those of the subwords before it
@@ -62,14 +67,29 @@ pub room : (p : Profile) (b : List ℕ) (i : ℕ) → Fits p b → i < p .subwor
     → data-start p i + length (part (Accepted p) i b) ≤ data-size p
 room p b i f h = omega (arith, part-length p b i f h, data-start-most p (f .valid) (suc i) h)
 
-pub gathered-more : (p : Profile) (b : List ℕ) (i at n : ℕ) (out y : List ℕ) → at ≤ length out → length y ≡ n
-    → y ≡ part (Accepted p) i b → take at out ≡ gathered p i b
-    → take (at + n) (splice at n y out) ≡ gathered p (i + 1) b
-gathered-more p b i at n out y h l is before =
-    ap (λ (k : ℕ). take (k + n) (splice at n y out)) (sym (length-take-le at out h))
-    ∙ take-append-add (take at out) (y ++ drop n (drop at out)) n
-    ∙ ap₂ _++_ before (take-at y (drop n (drop at out)) n l ∙ is)
-    ∙ sym (rw (add-one {i}))
+-- y is the part of subword i, written behind the others
+pub gathered-more : (p : Profile) (b : List ℕ) (i at n : ℕ) (out y part-i : List ℕ) → Fits p b → i < p .subwords
+    → at ≡ data-start p i → length out ≡ data-size p → take at out ≡ gathered p i b
+    → part-i ≡ part (Accepted p) i b → y ≡ part-i → n ≡ length part-i
+    → (at + length part-i ≡ data-start p (i + 1)) × (length (splice at n y out) ≡ data-size p)
+    × (take (at + length part-i) (splice at n y out) ≡ gathered p (i + 1) b)
+gathered-more p b i at n out y part-i f h start size before is same long =
+    let l : length y ≡ n = ap length same ∙ sym long in
+    let k : length part-i ≡ data-length p i = ap length is ∙ part-length p b i f h in
+    let next : data-start p (i + 1) ≡ data-start p i + data-length p i = ap (data-start p) (add-one i) in
+    let fits : at + n ≤ length out = omega (arith, k, data-start-most p (f .valid) (suc i) h) in
+    let front = length-take-le at out (omega arith) in
+    let rest : length (drop n (drop at out)) ≡ length out - at - n =
+    length-drop n (drop at out) ∙ ap (λ m. m - n) (length-drop at out) in
+    let end : at + length part-i ≡ length (take at out) + n = omega (arith, front) in (
+      omega (arith, k, next),
+      length-append (take at out) _ ∙ ap (λ m. length (take at out) + m) (length-append y (drop n (drop at out)))
+          ∙ omega (arith, front, l, rest),
+      ap (λ m. take m (splice at n y out)) end
+          ∙ take-append-add (take at out) (y ++ drop n (drop at out)) n
+          ∙ ap₂ _++_ before (take-at y (drop n (drop at out)) n l ∙ same ∙ is)
+          ∙ ap (λ m. gathered p m b) (sym (add-one i)),
+    )
 
 -- the last part fills what is lent
 pub gathered-all : (p : Profile) (b out : List ℕ) (at i : ℕ) → Fits p b → i ≡ p .subwords → at ≡ data-start p i
@@ -107,7 +127,8 @@ module _ (p : Profile) (d b : List ℕ) (f : Fits p b) (size : length d ≡ data
       ext-getD 0 _ _ (l ∙ sym r)
       (λ q u.
       let v : q < data-length p i = omega (arith, l) in
-      getD-take _ (drop (i * p .length + checks p i) b) q 0 (omega (arith, n))
+      getD-take ((i + 1) * p .length - (i * p .length + checks p i)) (drop (i * p .length + checks p i) b) q 0
+      (omega (arith, n))
       ∙ getD-drop (i * p .length + checks p i) b q 0
       ∙ symbol i q h v
       ∙ sym (getD-take (data-length p i) (drop (data-start p i) d) q 0 v ∙ getD-drop (data-start p i) d q 0))
@@ -120,4 +141,4 @@ module _ (p : Profile) (d b : List ℕ) (f : Fits p b) (size : length d ≡ data
   pub gathered-data : data-of p b ≡ d
   gathered-data =
       gathered-front (p .subwords) (omega arith)
-      ∙ take-all _ d (omega (arith, data-size-is p (f .valid), size))
+      ∙ take-all (data-start p (p .subwords)) d (omega (arith, data-size-is p (f .valid), size))

@@ -55,8 +55,5 @@ pub fn both(
 {
     let a = decoder::decode(profile, input, out, f);
     let c = decoder::decode(profile, input, second, g);
-    Both {
-        one: a,
-        other: c,
-    }
+    Both { one: a, other: c }
 }
