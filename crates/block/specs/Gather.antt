@@ -1,11 +1,11 @@
 -- The data of a block, in the order in which they were written: FORMAT 3.7.
 --
---   gathered p i b    the data of the first i subwords of the block b, one after the other
+--   data-before p i b    the data of the first i subwords of the block b, one after the other
 --   data-of p b       those of all subwords
 --
 -- Proved: the data of a subword are as many as its data positions (part-length), and those of the first i subwords as
--- many as the data before subword i (gathered-length); how one part more is gathered (gathered-more). From a block that
--- encodes data, these data are gathered (gathered-data).
+-- many as the data before subword i (before-length); how one part more is gathered (before-more). From a block that
+-- encodes data, these data are gathered (data-written).
 use Prim.Native.Nat.{ℕ, zero, suc, _+_, _-_, _*_, _≤_, _<_}
 use mathlib.Core.Path.{_≡_, refl, sym, ap, ap₂, _∙_}
 use mathlib.Core.List.{List, [], _++_}
@@ -27,12 +27,12 @@ use Rattle.code.specs.Definition.{subword, Encodes}
 use Rattle.code.specs.Block.{subword-at}
 use Rattle.block.specs.Parts.{Fits, inside}
 
-abbrev pub gathered : Profile → ℕ → List ℕ → List ℕ
-gathered p zero b = []
-gathered p (suc i) b = gathered p i b ++ part (Accepted p) i b
+abbrev pub data-before : Profile → ℕ → List ℕ → List ℕ
+data-before p zero b = []
+data-before p (suc i) b = data-before p i b ++ part (Accepted p) i b
 
 abbrev pub data-of : Profile → List ℕ → List ℕ
-data-of p b = gathered p (p .subwords) b
+data-of p b = data-before p (p .subwords) b
 
 -- ---- sizes
 
@@ -49,12 +49,12 @@ part-length p b i f h =
     (omega (arith, n, end-in (within p b i f h), checks-below p (f .valid) i, length-drop a b))
     ∙ size
 
-pub gathered-length : (p : Profile) (b : List ℕ) → Fits p b → (i : ℕ) → i ≤ p .subwords
-    → length (gathered p i b) ≡ data-start p i
-gathered-length p b f zero h = refl
-gathered-length p b f (suc i) h =
-    length-append (gathered p i b) (part (Accepted p) i b)
-    ∙ ap₂ _+_ (gathered-length p b f i (omega arith)) (part-length p b i f h)
+pub before-length : (p : Profile) (b : List ℕ) → Fits p b → (i : ℕ) → i ≤ p .subwords
+    → length (data-before p i b) ≡ data-start p i
+before-length p b f zero h = refl
+before-length p b f (suc i) h =
+    length-append (data-before p i b) (part (Accepted p) i b)
+    ∙ ap₂ _+_ (before-length p b f i (omega arith)) (part-length p b i f h)
 
 -- there are not many
 pub data-most : (p : Profile) (b : List ℕ) → Fits p b → data-size p ≤ 2040
@@ -68,12 +68,12 @@ pub room : (p : Profile) (b : List ℕ) (i : ℕ) → Fits p b → i < p .subwor
 room p b i f h = omega (arith, part-length p b i f h, data-start-most p (f .valid) (suc i) h)
 
 -- y is the part of subword i, written behind the others
-pub gathered-more : (p : Profile) (b : List ℕ) (i at n : ℕ) (out y part-i : List ℕ) → Fits p b → i < p .subwords
-    → at ≡ data-start p i → length out ≡ data-size p → take at out ≡ gathered p i b
+pub before-more : (p : Profile) (b : List ℕ) (i at n : ℕ) (out y part-i : List ℕ) → Fits p b → i < p .subwords
+    → at ≡ data-start p i → length out ≡ data-size p → take at out ≡ data-before p i b
     → part-i ≡ part (Accepted p) i b → y ≡ part-i → n ≡ length part-i
     → (at + length part-i ≡ data-start p (i + 1)) × (length (splice at n y out) ≡ data-size p)
-    × (take (at + length part-i) (splice at n y out) ≡ gathered p (i + 1) b)
-gathered-more p b i at n out y part-i f h start size before is same long =
+    × (take (at + length part-i) (splice at n y out) ≡ data-before p (i + 1) b)
+before-more p b i at n out y part-i f h start size before is same long =
     let l : length y ≡ n = ap length same ∙ sym long in
     let k : length part-i ≡ data-length p i = ap length is ∙ part-length p b i f h in
     let next : data-start p (i + 1) ≡ data-start p i + data-length p i = ap (data-start p) (add-one i) in
@@ -88,16 +88,16 @@ gathered-more p b i at n out y part-i f h start size before is same long =
       ap (λ m. take m (splice at n y out)) end
           ∙ take-append-add (take at out) (y ++ drop n (drop at out)) n
           ∙ ap₂ _++_ before (take-at y (drop n (drop at out)) n l ∙ same ∙ is)
-          ∙ ap (λ m. gathered p m b) (sym (add-one i)),
+          ∙ ap (λ m. data-before p m b) (sym (add-one i)),
     )
 
 -- the last part fills what is lent
-pub gathered-all : (p : Profile) (b out : List ℕ) (at i : ℕ) → Fits p b → i ≡ p .subwords → at ≡ data-start p i
+pub before-all : (p : Profile) (b out : List ℕ) (at i : ℕ) → Fits p b → i ≡ p .subwords → at ≡ data-start p i
     → length out ≡ data-size p
-    → take at out ≡ gathered p i b → out ≡ data-of p b
-gathered-all p b out at i f e is size before =
+    → take at out ≡ data-before p i b → out ≡ data-of p b
+before-all p b out at i f e is size before =
     let all : length out ≤ at = omega (arith, is, ap (data-start p) e, data-size-is p (f .valid), size) in
-    sym (take-all at out all) ∙ before ∙ ap (λ i. gathered p i b) e
+    sym (take-all at out all) ∙ before ∙ ap (λ i. data-before p i b) e
 
 -- ---- data that were written
 
@@ -133,12 +133,12 @@ module _ (p : Profile) (d b : List ℕ) (f : Fits p b) (size : length d ≡ data
       ∙ symbol i q h v
       ∙ sym (getD-take (data-length p i) (drop (data-start p i) d) q 0 v ∙ getD-drop (data-start p i) d q 0))
 
-  gathered-front : (i : ℕ) → i ≤ p .subwords → gathered p i b ≡ take (data-start p i) d
-  gathered-front zero h = refl
-  gathered-front (suc i) h =
-      ap₂ _++_ (gathered-front i (omega arith)) (part-data i h) ∙ sym (take-add (data-start p i) (data-length p i) d)
+  before-front : (i : ℕ) → i ≤ p .subwords → data-before p i b ≡ take (data-start p i) d
+  before-front zero h = refl
+  before-front (suc i) h =
+      ap₂ _++_ (before-front i (omega arith)) (part-data i h) ∙ sym (take-add (data-start p i) (data-length p i) d)
 
-  pub gathered-data : data-of p b ≡ d
-  gathered-data =
-      gathered-front (p .subwords) (omega arith)
+  pub data-written : data-of p b ≡ d
+  data-written =
+      before-front (p .subwords) (omega arith)
       ∙ take-all (data-start p (p .subwords)) d (omega (arith, data-size-is p (f .valid), size))

@@ -148,8 +148,8 @@ pub read-reports : (f : Form) (b y o e : List ℕ) (a : Reading) → Gives f (re
     → a .answer ≡ answer.Accepted
     → (p : Profile) × (profile-of b ≡ Accepted p) × Codeword p (bytes e) × Reports p y e a
 unfolding report
-read-reports f b y o e a g yes =
-    let says = sym (g .answer) ∙ yes in
+read-reports f b y o e a g answered =
+    let says = sym (g .answer) ∙ answered in
     let x = read-accepts b y (length o) says in
     let p = x .p in
     let is : bytes e ≡ cut (block-size p) (x .block) =

@@ -16,7 +16,6 @@ use crate::prepared::Reading;
 use profile::Answer;
 use profile::Parsed;
 use profile::Profile;
-use profile::SYMBOLS;
 use profile::questions::Caller;
 use solver::Form;
 
@@ -65,9 +64,10 @@ fn read_data(p: Profile, form: Form, input: &[u8], out: &mut [u8]) -> Reading
         (now (out .entry)) (now (out .exit)) r ⌝ }
 {
     let n = input.len();
-    let mut block = [0u8; SYMBOLS];
+    let mut block = crate::prepared::blank();
     let r = read(p, form, input, &mut block[..n]);
-    hand_out(p, r.answer, &block[..n], out);
+    let a = r.answer;
+    hand_out(p, a, &block[..n], out);
     r
 }
 

@@ -98,7 +98,8 @@ pub extern "C" fn gii_read(profile: &[u8], block: &[u8], data: &mut [u8]) -> u16
         (length (now («data» .entry)))) (now («data» .entry)) ⌝ }
 {
     let r = decoder::extract(profile, block, data, Form::Plain);
-    crate::numbers::result_of(r.answer)
+    let answer = r.answer;
+    crate::numbers::result_of(answer)
 }
 
 // ---- fetching

@@ -29,7 +29,7 @@ use Rattle.profile.specs.QuestionsLaws.{admitted-profile}
 use Rattle.profile.specs.Valid.{Valid, admitted-valid, writing-passed}
 use Rattle.code.specs.Definition.{Encodes}
 use Rattle.code.specs.Encoding.{encoding-some}
-use Rattle.block.specs.Gather.{data-of, gathered-data}
+use Rattle.block.specs.Gather.{data-of, data-written}
 use Rattle.solver.specs.declared.Form.{Form}
 use Rattle.staged_decoding.specs.Restorable.{Restorable}
 use Rattle.staged_decoding.specs.Restoring.{restoring-bytes}
@@ -97,7 +97,7 @@ round-trip p b d c y e ok profile size small w long room r =
     let is = extraction-is b p y (length e) profile long room in
     let block = word-bytes (block-size p) c (w .size) (w .small) in
     rw (is, decoded, block)
-    (refl, gathered-data p d c (record { valid = ok; size = w .size }) size small (w .small) (w .encodes))
+    (refl, data-written p d c (record { valid = ok; size = w .size }) size small (w .small) (w .encodes))
 
 abbrev pub Trip : (b d c y : List ℕ) → ℕ → List ℕ → Answers → Type 0
 Trip b d c y o e t = t .written ≡ answer.Accepted → (p : Profile) → profile-of b ≡ Accepted p

@@ -4,14 +4,14 @@ use mathlib.Core.Path.{_≡_, ap}
 use native.Mathlib.Omega.{arith}
 use lib.ListN.{length, take}
 use Rattle.profile.specs.Definition.{data-size, data-start}
-use Rattle.block.specs.Gather.{gathered, within, room, data-most, gathered-more, gathered-all}
+use Rattle.block.specs.Gather.{data-before, within, room, data-most, before-more, before-all}
 use borrow.Author.Needs.{needs}
 use Rattle.block.proofs.gather.gather.Statement.{statement}
 use Rattle.block.proofs.gather.gather.Tie as tie
 
 abbrev Inv-loop : tie.InvT-loop
 Inv-loop p block out₀ m at₀ i₀ out at i =
-    (i ≤ p .subwords) × (at ≡ data-start p i) × (length out ≡ data-size p) × (take at out ≡ gathered p i block)
+    (i ≤ p .subwords) × (at ≡ data-start p i) × (length out ≡ data-size p) × (take at out ≡ data-before p i block)
 
 abbrev μ-loop : tie.MeasureT-loop
 μ-loop p block out₀ m at₀ i₀ out at i = p .subwords - i
@@ -74,7 +74,7 @@ loop-again c =
     let n : now .at + length (at-positions .positions .result .now) - now .at
     ≡ length (at-positions .positions .result .now) = omega arith in
     let (next, long, more) =
-    gathered-more (given .args .p) _ (now .i) (now .at) _ (now .out) _ _ (given .pre .0) (omega arith) start size before
+    before-more (given .args .p) _ (now .i) (now .at) _ (now .out) _ _ (given .pre .0) (omega arith) start size before
     (at-positions .positions .ensures .0) (c .before .before .copy .ensures) n in
     (omega arith, next, long, more)
 
@@ -86,7 +86,7 @@ returns c =
     let given = c .before .before .before .before .before in
     let end = c .before .loop in
     let (_, start, size, all) = end .inv in
-    gathered-all (given .args .p) _ (end .out) (end .at) (end .i) (given .pre .0) (omega arith) start size all
+    before-all (given .args .p) _ (end .out) (end .at) (end .i) (given .pre .0) (omega arith) start size all
 
 pub gather-spec : {M : Type 1} → statement M
 gather-spec =
