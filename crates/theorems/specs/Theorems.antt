@@ -11,7 +11,7 @@
 -- Proved: what is written is the one codeword with the data (written-one); data that are written, changed within the
 -- condition of FORMAT 6.11 and read are the same, byte for byte (round-trip, trip); two readings of the same bytes end
 -- alike (both).
-use Prim.Native.Nat.{ℕ, _<_}
+use Prim.Native.Nat.{ℕ, zero, suc, _<_}
 use mathlib.Core.Path.{_≡_, refl, sym, ap, _∙_, subst}
 use mathlib.Core.List.{List, [], _∷_, map}
 use native.Mathlib.Omega.{arith}
@@ -39,7 +39,7 @@ use Rattle.decoder.specs.declared.prepared.Reading.{Reading}
 use Rattle.decoder.specs.Definition.{reading, extraction, answer-to, data-in, report-of, Gives}
 use Rattle.decoder.specs.Theorems.{extraction-is, Alike, alike}
 use Rattle.theorems.specs.declared.Trip.{Trip as Answers}
-use Rattle.theorems.specs.declared.Both.{Both as Readings}
+use Rattle.theorems.specs.declared.Pair.{Pair}
 
 abbrev pub Bytes : List ℕ → Type 0
 Bytes l = (i : ℕ) → getD l i 0 < 256
@@ -58,31 +58,30 @@ small-word (x ∷ w) zero = byte-lt x
 small-word (x ∷ w) (suc i) = small-word w i
 
 -- what `encode` writes wherever it accepts
-pub written-one : (b d o : List ℕ) → Bytes b → answer-of (writing b (length d) (length o)) ≡ answer.Accepted
-    → (p : Profile) × (profile-of b ≡ Accepted p) × Valid p × (length d ≡ data-size p)
-    × Written p d (written (writing b (length d) (length o)) d o)
-written-one b d o small yes = go (writing b (length d) (length o)) refl yes
+pub written-one : (p : Profile) (b d o : List ℕ) → Bytes b → profile-of b ≡ Accepted p
+    → answer-of (writing b (length d) (length o)) ≡ answer.Accepted
+    → Valid p × (length d ≡ data-size p) × Written p d (written (writing b (length d) (length o)) d o)
+written-one p b d o small profile says = go (writing b (length d) (length o)) refl says
   where
     go : (a : Parsed) → writing b (length d) (length o) ≡ a → answer-of a ≡ answer.Accepted
-        → (p : Profile) × (profile-of b ≡ Accepted p) × Valid p × (length d ≡ data-size p)
-        × Written p d (written (writing b (length d) (length o)) d o)
+        → Valid p × (length d ≡ data-size p) × Written p d (written (writing b (length d) (length o)) d o)
     go (Refused q) e y = let z : _≡_ {A = ℕ} 0 1 = cc in absurd (omega arith)
-    go (Accepted p) e y =
-        let profile = admitted-profile Encoder b (length d) (length o) 0 p e in
+    go (Accepted q) e y =
+        let mine : profile-of b ≡ Accepted q = admitted-profile Encoder b (length d) (length o) 0 q e in
+        let same : q ≡ p = cc in
+        let is : writing b (length d) (length o) ≡ Accepted p = e ∙ ap Accepted same in
         let ok = admitted-valid Card b 0 0 0 p profile (omega (arith, small 2)) in
-        let (_, size, _) = writing-passed b (length d) (length o) p e (ok .length .1) in
-        let (w, l, f, is) = encoding-some p ok (map of d) in
+        let (_, size, _) = writing-passed b (length d) (length o) p is (ok .length .1) in
+        let (w, l, f, found-w) = encoding-some p ok (map of d) in
         let c : written (writing b (length d) (length o)) d o ≡ map byte w =
-        ap (λ a. written a d o) e ∙ ap (found o) is in (
-          p,
-          profile,
+        ap (λ a. written a d o) is ∙ ap (found o) found-w in (
           ok,
           size,
           record {
             size = ap length c ∙ length-map w byte ∙ l;
             small = subst Bytes (sym c) (small-word w);
             encodes = rw (c, bytes-word w, bytes-entry d) f;
-            one = λ s long bytes-s code. written-is p ok _ d o s e long bytes-s code;
+            one = λ s long bytes-s code. written-is p ok _ d o s is long bytes-s code;
           },
         )
 
@@ -104,10 +103,23 @@ Trip b d c y o e t = t .written ≡ answer.Accepted → (p : Profile) → profil
     → length y ≡ block-size p → o ≡ data-size p → Restorable p (bytes c) (bytes y)
     → (t .read .answer ≡ answer.Accepted) × (e ≡ d)
 
+-- from the promises of `encode` and `extract`: o and q are what their outputs held
+pub trip : (b d o c y q e : List ℕ) (t : Answers) → Bytes b → Bytes d
+    → t .written ≡ answer-of (writing b (length d) (length o))
+    → c ≡ written (writing b (length d) (length o)) d o
+    → t .read .answer ≡ answer-to (extraction b y (length q))
+    → e ≡ data-in (extraction b y (length q)) q
+    → Trip b d c y (length q) e t
+trip b d o c y q e t small-b small-d wrote block read symbols says p profile long room r =
+    let (ok, size, w) = written-one p b d o small-b profile (sym wrote ∙ says) in
+    let (accepted, same) =
+    round-trip p b d c y q ok profile size small-d (subst (Written p d) (sym block) w) long room r in
+    (read ∙ accepted, symbols ∙ same)
+
 -- ---- alike
 
 -- the promises of `decode` are the fields of Gives
-abbrev pub Both : (f g : Form) (b y : List ℕ) → ℕ → (e k : List ℕ) → Readings → Type 0
+abbrev pub Both : (f g : Form) (b y : List ℕ) → ℕ → (e k : List ℕ) → Pair → Type 0
 Both f g b y o e k t = Alike f g (report-of (reading b y o)) e k (t .one) (t .other)
 
 pub both : (f g : Form) (b y o q e k : List ℕ) (a c : Reading) → q ≡ o

@@ -14,7 +14,7 @@ pub struct Trip {
 }
 
 // Two readings.
-pub struct Both {
+pub struct Pair {
     pub one: Reading,
     pub other: Reading,
 }
@@ -48,12 +48,12 @@ pub fn both(
     second: &mut [u8],
     f: Form,
     g: Form,
-) -> Both
+) -> Pair
     requires { ⌜ now second ≡ now out ⌝ }
     ensures { λ t. ⌜ EndAlike f g (now (profile .entry)) (now (input .entry)) (length (now (out .entry)))
         (now (out .exit)) (now (second .exit)) t ⌝ }
 {
     let a = decoder::decode(profile, input, out, f);
     let c = decoder::decode(profile, input, second, g);
-    Both { one: a, other: c }
+    Pair { one: a, other: c }
 }
