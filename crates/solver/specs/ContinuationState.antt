@@ -154,7 +154,7 @@ module _ (rounds : List (List F)) (round : List F) (u v : ℕ) (S : Series) (nex
     pub advanced-ended : (s p : Solver) → Advanced u v S s p → Ended f rounds s → Ended f (rounds ++ (round ∷ [])) p
     advanced-ended s p advanced ended =
         reached-ended f _ v S (next .to) p
-        (subst (λ n. Is f n p (state f n (entry (word v S)))) at (goes .0, goes .1 ∙ through ∙ whole))
+        (subst (λ n. Reached f n (entry (word v S)) p) at (goes .0, goes .1 ∙ through ∙ whole))
         (idle-kept f s p (ended .is .0) (advanced .others) (ended .others))
       where
         at : u + (v - u) ≡ v

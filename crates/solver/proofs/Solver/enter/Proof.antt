@@ -35,8 +35,9 @@ returns-2 : tie.Need-returns-2
 returns-2 c =
     let gone = c .before in
     let e = gone .before .enum-told2 .given .1 in
-    let is = c .with-lookahead .ensures in (
-      for-form _ _ _ e (ap (λ q. q .form) is ∙ e, ap (lookahead _) (ap (λ q. q .lookahead) is) ∙ gone .enter .ensures),
+    let is = c .with-lookahead .ensures in
+    let state = ap (λ q. q .lookahead) is in (
+      for-form _ _ _ e (ap (λ q. q .form) is ∙ e, ap (lookahead _) state ∙ gone .enter .ensures),
       kept _ _ e (ap (λ q. q .plain) is, ap (λ q. q .scaled) is),
     )
 
@@ -44,8 +45,9 @@ returns-3 : tie.Need-returns-3
 returns-3 c =
     let gone = c .before in
     let e = gone .before .enum-told3 .given .1 in
-    let is = c .with-scaled .ensures in (
-      for-form _ _ _ e (ap (λ q. q .form) is ∙ e, ap (scaled _) (ap (λ q. q .scaled) is) ∙ gone .enter2 .ensures),
+    let is = c .with-scaled .ensures in
+    let state = ap (λ q. q .scaled) is in (
+      for-form _ _ _ e (ap (λ q. q .form) is ∙ e, ap (scaled _) state ∙ gone .enter2 .ensures),
       kept _ _ e (ap (λ q. q .plain) is, ap (λ q. q .lookahead) is),
     )
 

@@ -39,8 +39,9 @@ returns : tie.Need-returns
 returns c =
     let gone = c .before in
     let e = gone .before .enum-told .given .1 in
-    let is = c .with-plain .ensures in (
-      for-form _ _ _ e (ap (λ q. q .form) is ∙ e, ap (plain _) (ap (λ q. q .plain) is) ∙ gone .iterate .ensures),
+    let is = c .with-plain .ensures in
+    let state = ap (λ q. q .plain) is in (
+      for-form _ _ _ e (ap (λ q. q .form) is ∙ e, ap (plain _) state ∙ gone .iterate .ensures),
       kept _ _ e (ap (λ q. q .lookahead) is, ap (λ q. q .scaled) is),
     )
 
@@ -48,8 +49,9 @@ returns-2 : tie.Need-returns-2
 returns-2 c =
     let gone = c .before in
     let e = gone .before .enum-told2 .given .1 in
-    let is = c .with-lookahead .ensures in (
-      for-form _ _ _ e (ap (λ q. q .form) is ∙ e, ap (lookahead _) (ap (λ q. q .lookahead) is) ∙ gone .iterate2 .ensures),
+    let is = c .with-lookahead .ensures in
+    let state = ap (λ q. q .lookahead) is in (
+      for-form _ _ _ e (ap (λ q. q .form) is ∙ e, ap (lookahead _) state ∙ gone .iterate2 .ensures),
       kept _ _ e (ap (λ q. q .plain) is, ap (λ q. q .scaled) is),
     )
 
@@ -57,8 +59,9 @@ returns-3 : tie.Need-returns-3
 returns-3 c =
     let gone = c .before in
     let e = gone .before .enum-told3 .given .1 in
-    let is = c .with-scaled .ensures in (
-      for-form _ _ _ e (ap (λ q. q .form) is ∙ e, ap (scaled _) (ap (λ q. q .scaled) is) ∙ gone .iterate3 .ensures),
+    let is = c .with-scaled .ensures in
+    let state = ap (λ q. q .scaled) is in (
+      for-form _ _ _ e (ap (λ q. q .form) is ∙ e, ap (scaled _) state ∙ gone .iterate3 .ensures),
       kept _ _ e (ap (λ q. q .plain) is, ap (λ q. q .lookahead) is),
     )
 
