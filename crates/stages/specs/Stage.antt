@@ -61,7 +61,7 @@ shown-yes : (pending : List Bool) (lines : List Line) (k : ℕ) (d : Bool) → k
 unfolding shown
 shown-yes pending lines k d h e = rw (any-default pending k true d h, e)
 
-pub shown-no : (pending : List Bool) (lines : List Line) (k : ℕ) (d : Bool) → k < length pending
+shown-no : (pending : List Bool) (lines : List Line) (k : ℕ) (d : Bool) → k < length pending
     → getD pending k d ≡ false
     → shown pending lines k ≡ some (says lines k)
 unfolding shown
