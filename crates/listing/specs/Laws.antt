@@ -1,15 +1,15 @@
 -- Texts that are appended one after the other, and the digits of a number.
 --
 -- Proved: what two texts come to that are appended one after the other (appended-then, appended-next); what no text
--- (appended-none, appended-end), a store (appended-byte), one more byte of a text (appended-more) and an array with no room
--- (appended-full) come to; what a line is that was
--- appended to nothing (appended-line); the digits of a number (decimal-one, decimal-more), and that a number below 2^16
--- has at most five (decimal-short), so that every line has room (blocks-short, ok-short, refused-short, card-short).
+-- (appended-none, appended-end), a store (appended-byte), one more byte of a text (appended-more) and an array with no
+-- room (appended-full) come to; what a line is that was appended to nothing (appended-line); the digits of a number
+-- (decimal-one, decimal-more), and that a number below 2^16 has at most five (decimal-short), so that every line has
+-- room (blocks-short, ok-short, refused-short, card-short).
 use Prim.Native.Nat.{ℕ, zero, suc, _+_, _-_, _*_, _/_, _%_, _≤_, _<_}
 use mathlib.Core.Path.{_≡_, refl, sym, ap, ap₂, _∙_}
 use mathlib.Core.Logic.{by-cases}
 use mathlib.Core.List.{List, [], _∷_, _++_, append-assoc, append-nil}
-use native.Mathlib.Nat.{div-add-mod'}
+use native.Mathlib.Nat.{div-add-mod', mod-lt}
 use native.Mathlib.Decide.{decLt, decLe}
 use native.Mathlib.Omega.{arith}
 use borrow.Author.Tests.{lt-ltb, le-ltb}
@@ -167,8 +167,11 @@ decimal-more (suc n) h =
     ∙ ap (λ (w : List ℕ). w ++ (glyph (suc n % 10) ∷ []))
     (digits-same n (suc n / 10) (suc n / 10) (omega (arith, tenth (suc n))) (omega arith))
 
-pub decimal-length : (n : ℕ) → 10 ≤ n → length (decimal n) ≡ length (decimal (n / 10)) + 1
+decimal-length : (n : ℕ) → 10 ≤ n → length (decimal n) ≡ length (decimal (n / 10)) + 1
 decimal-length n h = ap length (decimal-more n h) ∙ length-append (decimal (n / 10)) (glyph (n % 10) ∷ [])
+
+pub last-digit : (n : ℕ) → n % 10 < 10
+last-digit n = mod-lt n (omega arith)
 
 pub tenth-less : (n : ℕ) → 10 ≤ n → n / 10 < n
 tenth-less n h = omega (arith, tenth n)

@@ -1,5 +1,6 @@
 // Texts appended to the first bytes of an array that is lent, as far as it has room. What the promises speak of stands
 // in specs/Definition.antt.
+ghost use Prim.Native.Nat.{_≤_};
 ghost use mathlib.Core.Path.{_≡_};
 ghost use mathlib.Core.List.{[], _∷_};
 ghost use lib.ListN.{length, take};
@@ -8,6 +9,7 @@ ghost use Rattle.listing.specs.Definition.{decimal, Appended};
 // How many of the first `at` bytes an array has: where a text ends before anything is appended to it.
 pub fn within(to: &[u8], at: usize) -> usize
     ensures { λ r. ⌜ r ≡ length (take at (now (to .entry))) ⌝ }
+    ensures inside { λ r. ⌜ r ≤ length (now (to .entry)) ⌝ }
 {
     if at < to.len() {
         return at;

@@ -1,16 +1,16 @@
 -- A solver's state as text, of the form that it has.
 --
---   name-text f          the name of a form
---   at f i               coefficient i of f, as a number
---   coefficient-text f i coefficient i of f, after a space
---   top f n              the index of the last of the coefficients 0 to n of f that is not zero, or 0
---   polynomial-text f    the coefficients up to the last that is not zero
---   part-text f g s      two polynomials and the scalars s
---   polynomials-text s   Λ, B and γ
---   lookahead-scalars p, scaled-scalars p
---                        the scalars that a state of these forms holds
---   held-text s          Δ, Θ and the held scalars; nothing in the plain form, which has none
---   place-text r l       k and L: after r iterations k is r − 2L
+--   name-text f            the name of a form
+--   at f i                 coefficient i of f, as a number
+--   coefficient-text f i   coefficient i of f, after a space
+--   top f n                the index of the last of the coefficients 0 to n of f that is not zero, or 0
+--   polynomial-text f      a bar, and the coefficients up to the last that is not zero
+--   part-text f g s        two polynomials, a bar and the scalars s
+--   polynomials-text s     Λ, B and γ
+--   lookahead-scalars p    the scalars that a state of the lookahead form holds
+--   scaled-scalars p       the scalars that a state of the scaled form holds
+--   held-text s            Δ, Θ and the held scalars; nothing in the plain form, which has none
+--   place-text r l         k and L: after r iterations k is r − 2L
 use Prim.Native.Nat.{ℕ, zero, suc, _*_}
 use mathlib.Core.Bool.{cond}
 use mathlib.Core.List.{List, [], _∷_, _++_}
@@ -56,7 +56,8 @@ abbrev pub polynomials-text : Solver → List ℕ
 polynomials-text s = polynomials-in (s .form) s
 
 abbrev pub lookahead-scalars : Lookahead-state → List ℕ
-lookahead-scalars p = p .«gamma_s» .0 ∷ p .«delta_s» .0 ∷ p .«theta_s» .0 ∷ p .g1 .0 ∷ p .g2 .0 ∷ p .h1 .0 ∷ p .h2 .0 ∷ []
+lookahead-scalars p =
+    p .«gamma_s» .0 ∷ p .«delta_s» .0 ∷ p .«theta_s» .0 ∷ p .g1 .0 ∷ p .g2 .0 ∷ p .h1 .0 ∷ p .h2 .0 ∷ []
 
 abbrev pub scaled-scalars : Scaled-state → List ℕ
 scaled-scalars p = p .ratio .0 ∷ p .rho .0 ∷ p .xi .0 ∷ p .«rho_s» .0 ∷ p .«xi_s» .0 ∷ []

@@ -49,6 +49,7 @@ fn degree(f: [Gf; COEFFICIENTS]) -> usize
     0
 }
 
+// A symbol, as a number after a space.
 fn value(to: &mut [u8], at: usize, x: Gf) -> usize
     ensures { λ r. ⌜ Appended at (number-text (x .0)) (now (to .entry)) r (now (to .exit)) ⌝ }
 {

@@ -1,9 +1,8 @@
 -- What stands before the last digit is a tenth of the digits, which falls.
 use Prim.Native.Nat.{ℕ, _<_}
 use mathlib.Core.Path.{_∙_}
-use native.Mathlib.Nat.{mod-lt}
 use native.Mathlib.Omega.{arith}
-use Rattle.listing.specs.Laws.{tenth-less, appended-low, appended-high}
+use Rattle.listing.specs.Laws.{last-digit, tenth-less, appended-low, appended-high}
 use borrow.Author.Needs.{needs}
 use borrow.Fn.Kinds.{In}
 use borrow.Fn.PlainCycle.{Measures, is, falls, and}
@@ -82,8 +81,8 @@ digits-cast-byte-2 : (t : ℕ) → digits-lts.Need-cast-byte-2 (
   digits.Post,
 ) (digits-at t) digits.Post
 digits-cast-byte-2 t c =
-    let n = c .before .before .before .before .before .before .before .args .n in
-    omega (arith, mod-lt n {m = 10} (omega arith))
+    let at-digits = c .before .before .before in
+    omega (arith, last-digit (at-digits .before .before .before .before .args .n))
 
 digits-add-byte-2 : (t : ℕ) → digits-lts.Need-add-byte-2 (
   byte-reads.Asked,
@@ -92,8 +91,8 @@ digits-add-byte-2 : (t : ℕ) → digits-lts.Need-add-byte-2 (
   digits.Post,
 ) (digits-at t) digits.Post
 digits-add-byte-2 t c =
-    let n = c .before .before .before .before .before .before .before .args .n in
-    omega (arith, mod-lt n {m = 10} (omega arith))
+    let at-digits = c .before .before .before in
+    omega (arith, last-digit (at-digits .before .before .before .before .args .n))
 
 digits-byte-requires-2 : (t : ℕ) → digits-lts.Need-byte-requires-2 (
   byte-reads.Asked,

@@ -19,7 +19,7 @@ within-requires : tie.Need-within-requires Inv-loop μ-loop
 within-requires c κs = search needs
 
 loop-holds : tie.Need-loop-holds Inv-loop μ-loop
-loop-holds c = (omega arith, appended-none _ _ _ (c .within .ensures))
+loop-holds c = (omega arith, appended-none _ _ _ (c .within .ensures .0))
 
 shared-slice-read-byte : tie.Need-shared-slice-read-byte Inv-loop μ-loop
 shared-slice-read-byte c = search needs
@@ -46,7 +46,8 @@ same-length c = search needs
 returns : tie.Need-returns Inv-loop μ-loop
 returns c =
     let end = c .before .loop in
-    let given = c .before .before .before .before .before .before .args in
+    let at-within = c .before .before in
+    let given = at-within .before .before .before .before .args in
     rw (take-all (end .i) (given .text .now) (c .loop-test .left)) at (end .inv .1)
 
 pub put-spec : {M : Type 1} → statement M

@@ -7,10 +7,10 @@ use Rattle.listing.proofs.text.within.Statement.{statement}
 use Rattle.listing.proofs.text.within.Tie as tie
 
 returns : tie.Need-returns
-returns c = sym (length-take-le _ _ (omega arith))
+returns c = (sym (length-take-le _ _ (omega arith)), omega arith)
 
 returns-2 : tie.Need-returns-2
-returns-2 c = sym (ap length (take-all _ _ (c .if1 .left)))
+returns-2 c = (sym (ap length (take-all _ _ (c .if1 .left))), omega arith)
 
 pub within-spec : {M : Type 1} → statement M
 within-spec = tie.close (tie.spec returns returns-2)

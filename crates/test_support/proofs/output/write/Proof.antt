@@ -1,7 +1,5 @@
 -- The array has what it is asked for.
 use mathlib.Core.Path.{sym}
-use native.Mathlib.Omega.{arith}
-use lib.ListN.{length-take}
 use lib.Seq.{length-take-le}
 use borrow.Author.Needs.{needs}
 use Rattle.test_support.proofs.output.write.Statement.{statement}
@@ -11,9 +9,7 @@ within-requires : tie.Need-within-requires
 within-requires c κs = search needs
 
 slice-aggregate-write-all : tie.Need-slice-aggregate-write-all
-slice-aggregate-write-all c =
-    let given = c .before .before .before .args in
-    sym (length-take-le _ _ (omega (arith, c .before .within .ensures, length-take (given .n) (given .text .now))))
+slice-aggregate-write-all c = sym (length-take-le _ _ (c .before .within .ensures .1))
 
 write-all-requires : tie.Need-write-all-requires
 write-all-requires c κs = search needs

@@ -12,7 +12,7 @@ same-length : tie.Need-same-length
 same-length c = search needs
 
 returns : tie.Need-returns
-returns c = rw (eq-eqb _ _ (c .before .before .if1 .taken)) (appended-none _ _ _ (c .within .ensures))
+returns c = rw (eq-eqb _ _ (c .before .before .if1 .taken)) (appended-none _ _ _ (c .within .ensures .0))
 
 number-requires : tie.Need-number-requires
 number-requires c κs = search needs

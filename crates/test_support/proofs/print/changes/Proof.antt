@@ -23,10 +23,11 @@ within-requires c κs = search needs
 
 loop-holds : tie.Need-loop-holds Inv-loop μ-loop
 loop-holds c =
-    let given = c .before .before .before .before .before .args in (
+    let known = c .before .before in
+    let given = known .before .before .before .args in (
       omega arith,
       omega arith,
-      each-none (change-at (given .x .now) (given .y .now)) (appended-none _ _ _ (c .within .ensures)),
+      each-none (change-at (given .x .now) (given .y .now)) (appended-none _ _ _ (c .within .ensures .0)),
     )
 
 same-length : tie.Need-same-length Inv-loop μ-loop
@@ -35,8 +36,9 @@ same-length c = search needs
 returns : tie.Need-returns Inv-loop μ-loop
 returns c =
     let end = c .before .before .loop in
-    let start = c .before .before .before .before .before .before in
-    let given = start .before .before .args in
+    let at-within = c .before .before .before in
+    let known = at-within .before .before in
+    let given = known .before .before .before .args in
     let all : end .i ≡ min (length (given .x .now)) (length (given .y .now)) =
     omega (arith, end .inv .0, end .inv .1, c .if1 .taken) in
     rw all at (end .inv .2)
@@ -62,8 +64,8 @@ loop-again c =
     let at-else = at-change .before .before .before .before in
     let at-loop = at-else .before .before in
     let now = at-loop .loop in
-    let start = at-loop .before .before .before .before .before in
-    let given = start .before .args in (
+    let known = at-loop .before .before .before in
+    let given = known .before .before .before .args in (
       omega (arith, at-else .if1 .left),
       omega arith,
       each-more (change-at (given .x .now) (given .y .now)) (now .i) (now .inv .2) (at-change .change .ensures),
@@ -75,8 +77,9 @@ same-length-2 c = search needs
 returns-2 : tie.Need-returns-2 Inv-loop μ-loop
 returns-2 c =
     let end = c .before .loop in
-    let start = c .before .before .before .before .before in
-    let given = start .before .before .args in
+    let at-within = c .before .before in
+    let known = at-within .before .before in
+    let given = known .before .before .before .args in
     let all : end .i ≡ min (length (given .x .now)) (length (given .y .now)) =
     omega (arith, end .inv .0, end .inv .1, c .loop-test .left) in
     rw all at (end .inv .2)

@@ -24,7 +24,7 @@ within-requires c κs = search needs
 loop-holds : tie.Need-loop-holds Inv-loop μ-loop
 loop-holds c =
     let given = c .before .before .before .before .args in
-    (omega arith, each-none (number-at (given .s .now)) (appended-none _ _ _ (c .within .ensures)))
+    (omega arith, each-none (number-at (given .s .now)) (appended-none _ _ _ (c .within .ensures .0)))
 
 shared-slice-read-index : tie.Need-shared-slice-read-index Inv-loop μ-loop
 shared-slice-read-index c = search needs
@@ -47,7 +47,8 @@ loop-again c =
     let at-index = at-number .before in
     let at-loop = at-index .before .before .before .before in
     let now = at-loop .loop in
-    let given = at-loop .before .before .before .before .before .args in (
+    let at-within = at-loop .before in
+    let given = at-within .before .before .before .before .args in (
       omega arith,
       each-more (number-at (given .s .now)) (now .i) (now .inv .1)
           (rw (at-index .index .ensures .0) at (at-number .number .ensures)),
@@ -59,7 +60,8 @@ same-length c = search needs
 returns : tie.Need-returns Inv-loop μ-loop
 returns c =
     let end = c .before .loop in
-    let given = c .before .before .before .before .before .before .args in
+    let at-within = c .before .before in
+    let given = at-within .before .before .before .before .args in
     let all : end .i ≡ length (given .s .now) = omega (arith, end .inv .0, c .loop-test .left) in
     rw all at (end .inv .1)
 

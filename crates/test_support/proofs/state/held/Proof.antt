@@ -38,7 +38,7 @@ same-length : tie.Need-same-length
 same-length c = search needs
 
 returns : tie.Need-returns
-returns c = rw (c .before .before .enum-told .given .1) (appended-none _ _ _ (c .within .ensures))
+returns c = rw (c .before .before .enum-told .given .1) (appended-none _ _ _ (c .within .ensures .0))
 
 same-length-2 : tie.Need-same-length-2
 same-length-2 c = search needs

@@ -28,7 +28,8 @@ unfolding part-text
 returns c =
     let at-numbers = c .before .before in
     let at-put = at-numbers .before .before .before .before in
-    let at-second = at-put .before .before .before .before .before in
+    let known = at-put .before .before .before in
+    let at-second = known .before .before in
     let at-first = at-second .before .before .before .before in
     let two = appended-then (at-first .polynomial .ensures) (at-second .polynomial2 .ensures) in
     appended-then (appended-then two (at-put .put .ensures)) (at-numbers .numbers .ensures)
