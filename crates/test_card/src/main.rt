@@ -10,7 +10,9 @@ ghost use mathlib.Core.Bool.{false};
 ghost use Rattle.card.specs.SectionDefinition.{over, left};
 use card::section::Section;
 use listing::LINE;
+use listing::text::put;
 use test_support::input;
+use test_support::output;
 use test_support::print;
 
 fn blank() -> [u8; LINE] {
@@ -51,12 +53,18 @@ fn list(card: &[u8]) {
     }
 }
 
+fn title(n: usize) {
+    let mut line = blank();
+    let mut at = put(&mut line, 0, b"card of");
+    at = print::number(&mut line, at, n);
+    at = put(&mut line, at, b"\n");
+    output::write(&line, at);
+}
+
 fn one() {
     let n = input::number();
     let space = input::bytes(n);
-    print::text(b"card of");
-    print::number(n);
-    print::text(b"\n");
+    title(n);
     list(&space[..n]);
 }
 
