@@ -1,7 +1,9 @@
-"""test_field: logarithms, powers, inverses, and every product, from the product of polynomials over GF(2)."""
+"""test_field: zero, one and α, logarithms, powers, inverses, and every product, from the product of polynomials over
+GF(2)."""
 from .common import text
 
 MODULUS = 0x11d          # z^8 + z^4 + z^3 + z^2 + 1
+NAMED = [0, 1, 1 << 1]   # the polynomials 0, 1 and z
 
 
 def product(a, b):
@@ -16,10 +18,11 @@ def product(a, b):
 
 
 def make():
-    powers = [1]
+    _, one, alpha = NAMED
+    powers = [one]
     while len(powers) < 255:
-        powers.append(product(powers[-1], 2))
+        powers.append(product(powers[-1], alpha))
     products = [[product(a, b) for b in range(256)] for a in range(256)]
     logarithms = [0] + [powers.index(a) for a in range(1, 256)]
-    inverses = [products[a].index(1) for a in range(1, 256)]
-    return {'stdout': text(' '.join(map(str, line)) for line in [logarithms, powers, inverses] + products)}
+    inverses = [products[a].index(one) for a in range(1, 256)]
+    return {'stdout': text(' '.join(map(str, line)) for line in [NAMED, logarithms, powers, inverses] + products)}

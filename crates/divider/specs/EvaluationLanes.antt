@@ -13,8 +13,7 @@ use native.Mathlib.Nat.{sub-zero}
 use native.Mathlib.Omega.{arith}
 use lib.Dec.{T, eqb, eqb→eq}
 use lib.ListN.{length, getD}
-use Rattle.field.specs.Field.{F, _⊕_, _⊙_, ⊙-comm, of, of-byte, of-zero}
-use Rattle.field.specs.Log.{powerTable, powerTable-at}
+use Rattle.field.specs.Field.{F, _⊕_, _⊙_, ⊙-comm, of, of-byte, of-zero, powerTable, powerTable-at}
 use Rattle.field.specs.Test.{all, all-at}
 use Rattle.series.specs.Series.{Series}
 use Rattle.series.specs.Shift.{drop, cut, cut-low, cut-high, cut-unique, drop-none}

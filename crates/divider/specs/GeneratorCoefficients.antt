@@ -1,7 +1,7 @@
 -- The coefficients of the generator, each from the one above it.
 --
 --   stretch f   the polynomial f with αz for z
---   Zech l      entry i of the array l, i below 48, is the exponent of α^(i+1) + 1: Zech's logarithms
+--   Zech i e    e is the exponent of α^(i+1) + 1: Zech's logarithm
 --
 -- Proved: the generator of k + 1 roots, stretched, is that of k roots times z + α^first and a constant (stretched),
 -- since the roots are consecutive powers of α. So a coefficient is known from the one above it (coefficient-below), its
@@ -9,18 +9,14 @@
 -- and ends with the generator (back-all).
 use Prim.Native.Nat.{ℕ, zero, suc, _+_, _-_, _≤_, _<_}
 use mathlib.Core.Path.{_≡_, sym, ap, ap₂, _∙_, fun-ext}
-use mathlib.Core.Bool.{Bool, _&&_}
+use mathlib.Core.Logic.{_≢_}
 use mathlib.Core.List.{List}
 use native.Mathlib.Numerals.{add-one}
 use native.Mathlib.Omega.{arith}
-use lib.Bits.{bitXor}
-use lib.Dec.{T, eqb, ltb, eqb→eq, ltb→lt}
-use lib.ListN.{length, getD, set}
+use lib.ListN.{length, set}
 use Rattle.field.specs.Field.{F, 𝟎, 𝟏, α, _⊕_, _⊙_, of, pow, ⊕-group, ⊕-lc, ⊕-zero, zero-⊕, ⊙-zero, one-⊙}
-use Rattle.field.specs.Field.{⊙-cancel, ⊙-ring, alpha≢zero, of-byte, of-xor, of-one, pow-zero, pow-suc}
-use Rattle.field.specs.Field.{pow-add, power-255, power-nonzero}
-use Rattle.field.specs.Log.{powerTable, powerTable-at}
-use Rattle.field.specs.Test.{all, all-at, and-both}
+use Rattle.field.specs.Field.{⊙-cancel, ⊙-ring, alpha≢zero, log, pow-log, pow-zero, pow-suc, pow-add, power-255}
+use Rattle.field.specs.Field.{power-nonzero, power-apart}
 use Rattle.series.specs.Series.{Series, O, K, Z, _⊞_, _⊠_, ⊠-ring, ⊞-at, K-suc, K-⊠-at, Z-⊠-at0}
 use Rattle.series.specs.Series.{Z-⊠-at, ⊞-⊠, ⊠-zero, head-tail}
 use Rattle.series.specs.Shift.{zpow, drop, zpow-suc, zpow-at, zpow-one, zpow-other}
@@ -153,26 +149,16 @@ module _ (first : ℕ) where
 
 -- ---- Zech's logarithms
 
-unfoldable pub zech? : List ℕ → List ℕ → Bool
-zech? t l = all 48 (λ i. ltb (getD l i 0) 255 && eqb (getD t (getD l i 0) 0) (bitXor (getD t (i + 1) 0) 1))
+abbrev pub Zech : ℕ → ℕ → Type 0
+Zech i e = pow α e ≡ root i ⊕ 𝟏
 
-pub record Zech (l : List ℕ) : Type 0 where
-  pub at : (i : ℕ) → i < 48 → pow α (getD l i 0) ≡ root i ⊕ 𝟏
-
--- by one test of the table of powers, which antt computes
-pub zech : (l : List ℕ) → T (zech? powerTable l) → Zech l
-unfolding zech? root
-zech l t = record { at = λ i h. entry i h (and-both (ltb (getD l i 0) 255) _ (all-at 48 _ t i h)) }
+pub zech-log : (i e : ℕ) (a s x : F) → i < 48 → a ≡ pow α (i + 1) → s ≡ 𝟏 → x ≡ a ⊕ s → e ≡ log x → Zech i e
+unfolding root
+zech-log i e a s x h ea es ex l = ap (pow α) l ∙ pow-log x nonzero ∙ ex ∙ ap₂ _⊕_ ea es
   where
-    entry : (i : ℕ) → i < 48
-        → T (ltb (getD l i 0) 255) × T (eqb (getD powerTable (getD l i 0) 0) (bitXor (getD powerTable (i + 1) 0) 1))
-        → pow α (getD l i 0) ≡ root i ⊕ 𝟏
-    entry i h (small, same) =
-        sym (of-byte _)
-        ∙ ap of (sym (powerTable-at (getD l i 0) (ltb→lt _ 255 small)) ∙ eqb→eq _ _ same
-        ∙ ap (λ (x : ℕ). bitXor x 1) (powerTable-at (i + 1) (omega arith)))
-        ∙ of-xor _ 1
-        ∙ ap₂ _⊕_ (of-byte _) of-one
+    nonzero : x ≢ 𝟎
+    nonzero z = power-apart (i + 1) 0 (omega arith) (omega arith) (omega arith)
+        (ap₂ _⊕_ (sym ea) (pow-zero α ∙ sym es) ∙ sym ex ∙ z)
 
 -- ---- stored from the top down
 

@@ -15,7 +15,8 @@ ghost use Rattle.divider.specs.EvaluationLanes.{Lanes};
 use field::Gf;
 use polynomial::SYNDROMES;
 
-// The roots: entry j is α^(j+1).
+// The roots, field values and no exponents: entry j is α^(j+1). They are the points of Horner's rule, thirty-two at a
+// time.
 const ROOTS: [u8; 64] = *b"\x02\x04\x08\x10\x20\x40\x80\x1d\x3a\x74\xe8\xcd\x87\x13\x26\x4c\
     \x98\x2d\x5a\xb4\x75\xea\xc9\x8f\x03\x06\x0c\x18\x30\x60\xc0\x9d\
     \x27\x4e\x9c\x25\x4a\x94\x35\x6a\xd4\xb5\x77\xee\xc1\x9f\x23\x46\

@@ -1,61 +1,61 @@
 // The generator polynomial of k roots, from one on, and its table: what a word is divided by.
 // What the promises speak of stands in specs/GeneratorTable.antt.
-ghost use Prim.Native.Nat.{_+_, _≤_};
+ghost use Prim.Native.Nat.{_+_, _≤_, _<_};
 ghost use mathlib.Core.Path.{_≡_};
-ghost use lib.ListN.{length};
+ghost use lib.ListN.{length, replicate};
+ghost use Rattle.field.specs.Field.{powerTable, logTable};
 ghost use Rattle.series.specs.Array.{bytes};
 ghost use Rattle.divider.specs.Generator.{aligned};
 ghost use Rattle.divider.specs.GeneratorCoefficients.{Zech};
 ghost use Rattle.divider.specs.GeneratorTable.{Table, Made};
 use field::Exponent;
+use field::Gf;
 use polynomial::SYNDROMES;
 
 // How many words a table has.
 pub const TABLE: usize = 1536;
 
-// Zech's logarithms: entry i is the exponent of α^(i+1) + 1.
-const LOGARITHMS: [u8; SYNDROMES] =
-    *b"\x19\x32\xdf\x64\x8a\xbf\x70\xc8\x78\x15\xf5\x7f\x63\xe0\x21\x91\
-    \x44\xf0\x5c\x2a\x0a\xeb\xc4\xfe\x01\xc6\x68\xc1\xb5\x42\x2d\x23\
-    \x0f\x88\x20\xe1\xb3\xb8\x6a\x54\x9d\x14\x79\xd7\x1f\x89\x65\xfd";
-
-// Zech's logarithms by what they mean, so that no caller sees the table's entries.
-fn zech() -> [u8; SYNDROMES]
-    ensures { λ r. ⌜ Zech r ⌝ }
+// Zech's logarithm: the exponent of α^(i+1) + 1, with both tables lent.
+fn zech(power: &[u8; 256], log: &[u8; 256], i: usize) -> Exponent
+    requires { ⌜ (now power ≡ powerTable) × (now log ≡ logTable) × (i < 48) ⌝ }
+    ensures { λ r. ⌜ Zech i (r .0) × (r .0 < 255) ⌝ }
 {
-    LOGARITHMS
+    let a = Exponent(i + 1).power_in(power);
+    a.sum(Gf::ONE).log_in(log)
 }
 
 // The generator of the k roots from `first` on, without its top term, which stands where entry 48 would be. From the
 // top down: a coefficient is the one above it, times α^first α^(j+1) (α^(k-j) + 1) / (α^(j+1) + 1), with j coefficients
-// above that one. All are powers of α, and α^255 is 1.
+// above that one. All are powers of α, so that exponents are added, modulo 255.
 fn generator(first: usize, k: usize) -> [u8; SYNDROMES]
     requires { ⌜ first + k ≤ 48 ⌝ }
     ensures { λ r. ⌜ bytes r ≡ aligned first k ⌝ }
 {
-    let z = zech();
+    let power = field::powers();
+    let log = field::logarithms();
     let mut g = [0u8; SYNDROMES];
-    let mut e: usize = 0;
+    let mut e = Exponent(0);
     let mut j: usize = 0;
     while j < k {
-        let up = kernel::index(z[k - (j + 1)]);
-        let down = kernel::index(z[j]);
-        e = e + (first + j + 256 + up) - down;
+        let up = zech(&power, &log, k - (j + 1));
+        let down = zech(&power, &log, j);
+        e = Exponent((e.0 + (first + j + 256 + up.0) - down.0) % 255);
         j += 1;
-        let c = Exponent(e).power();
+        let c = e.power_in(&power);
         g[SYNDROMES - j] = c.0;
     }
     g
 }
 
-// Room for a table.
+// Room for a table: zeros.
 pub fn blank() -> [u64; TABLE]
-    ensures { λ r. ⌜ length r ≡ 1536 ⌝ }
+    ensures { λ r. ⌜ (length r ≡ 1536) × (r ≡ replicate 1536 0) ⌝ }
 {
     [0u64; TABLE]
 }
 
-// The table for words with the k roots from `first` on, made once for any number of words.
+// The table for words with the k roots from `first` on, made once for any number of words. Up to 32 roots it is the
+// first 1024 words; the others are no row's, and nothing is promised of them.
 pub fn table(first: usize, k: usize, t: &mut [u64])
     requires { ⌜ (first + k ≤ 48) × (length (now t) ≡ 1536) ⌝ }
     ensures { λ _. ⌜ Table first k (now (t .exit)) ⌝ }
@@ -64,7 +64,8 @@ pub fn table(first: usize, k: usize, t: &mut [u64])
     crate::multiples::multiples(g, k, t);
 }
 
-// The table for k check symbols, made anew unless it was made for them; made for 0 is room that holds none yet.
+// The table for k check symbols, made anew unless it was made for them; made for 0 is room that holds none yet. The
+// words after a table of 1024 are left open here too.
 pub fn prepare(t: &mut [u64], made: usize, k: usize)
     requires { ⌜ Made made (now t) × (1 ≤ k) × (k ≤ 48) ⌝ }
     ensures { λ _. ⌜ Table 0 k (now (t .exit)) ⌝ }

@@ -1,5 +1,6 @@
-// Tables of multiples: 256 rows of 48 symbols, row f holding f times row 1. Up to degree 32 the two lowest words of
-// every row are zero and are not stored, so a row has four words; above it has six.
+// Tables of multiples: 256 rows of 48 symbols, row f holding f times row 1, in 1536 words. Above degree 32 a row has
+// six words. Up to 32 the two lowest of them are zero and are not stored: a row has four words, and the last 512 words
+// of the table are no row's. No promise speaks of these.
 // What the promises speak of stands in specs/Multiples.antt.
 ghost use Prim.Native.Nat.{_+_, _-_, _≤_, _<_};
 ghost use mathlib.Core.Path.{_≡_};

@@ -46,7 +46,7 @@ fn times(b: Gf, pending: [bool; SUBWORDS], i: usize, j: usize, x: Gf) -> Gf
         return b;
     }
     if pending[j] {
-        return kernel::product(b, x.sum(Exponent(j).power()));
+        return b.product(x.sum(Exponent(j).power()));
     }
     b
 }
@@ -73,5 +73,5 @@ pub fn lagrange(p: Profile, pending: [bool; SUBWORDS], i: usize, k: usize) -> Gf
     ensures { λ r. ⌜ val r ≡ Lagrange (p .subwords) (flag pending) i k ⌝ }
 {
     let d = product(p, pending, i, i).inverse();
-    kernel::product(product(p, pending, i, k), d)
+    product(p, pending, i, k).product(d)
 }

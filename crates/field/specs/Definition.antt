@@ -13,8 +13,11 @@
 --   of n, byte x     the value of a byte, and the byte of a value
 --   isZero x         whether x is 𝟎
 --   val g            the value that a `Gf` of the code stands for
+--   named            the values that have names: zero, one, α
+--   powerTable       the table of powers: entry k is the byte of α^k for k below 255, entry 255 is 0 (FORMAT 1.6)
+--   logTable         the table of logarithms: entry b is the logarithm of the byte b, that of 0 being 0
 use mathlib.Core.Bool.{Bool, true, false, xor, cond}
-use mathlib.Core.List.{List, [], _∷_}
+use mathlib.Core.List.{List, [], _∷_, _++_}
 use Prim.Native.Nat.{ℕ, zero, suc, _+_, _*_, _/_, _%_}
 use lib.Dec.{eqb}
 use Rattle.field.specs.declared.Gf.{Gf}
@@ -126,3 +129,19 @@ logOf b = place b 0 (powers 255 𝟏)
 
 unfoldable pub log : F → ℕ
 log x = logOf (byte x)
+
+-- ---- the named values and the two tables
+
+unfoldable pub named : List F
+named = 𝟎 ∷ 𝟏 ∷ α ∷ []
+
+unfoldable pub powerTable : List ℕ
+powerTable = powers 255 𝟏 ++ (0 ∷ [])
+
+-- f i, f (i + 1), .. , n of them
+unfoldable pub tabulate : ℕ → ℕ → (ℕ → ℕ) → List ℕ
+tabulate zero i f = []
+tabulate (suc n) i f = f i ∷ tabulate n (suc i) f
+
+unfoldable pub logTable : List ℕ
+logTable = tabulate 256 0 logOf

@@ -1,9 +1,6 @@
 -- Logarithms: every value but 𝟎 is a power of α, and of one exponent below 255.
 --
---   powerTable   what the code's table of powers holds: at k the byte of α^k for k below 255, at 255 (never read) 0
---   logTable     what the code's table of logarithms holds: at b the logarithm of b, at 0 (never used) 0
---
--- Proved: pow-log, log-pow, log-lt; the inverse; the tables' rule.
+-- Proved: pow-log, log-pow, log-lt; what each entry of the two tables is (powerTable-at, powerTable-last, logTable-at).
 use mathlib.Core.Path.{_≡_, refl, ap, sym, _∙_}
 use mathlib.Core.Bool.{Bool, true, false, xor, _&&_, _||_}
 use mathlib.Core.Logic.{_≢_}
@@ -13,8 +10,9 @@ use native.Mathlib.Nat.{add-zero, zero-add, add-suc, suc-add}
 use native.Mathlib.Omega.{arith}
 use lib.Dec.{T, eqb, ltb, eqb→eq, ltb→lt}
 use lib.ListN.{length, getD, List·getD-append}
+use lib.Seq.{getD-append-seam, ext-getD}
 use Rattle.field.specs.Definition.{F, 𝟎, 𝟏, α, _⊕_, plus, times, scale, z⁸, horner, modulo, coefficients, _⊙_}
-use Rattle.field.specs.Definition.{pow, of, bit, byte, powers, place, logOf, log}
+use Rattle.field.specs.Definition.{pow, of, bit, byte, powers, place, logOf, log, powerTable, tabulate, logTable}
 use Rattle.field.specs.Product.{⊙-assoc, ⊙-left-comm, ⊙-one, one-⊙}
 use Rattle.field.specs.Test.{all, all-at, and-both}
 use Rattle.field.specs.Byte.{byte-of, byte-lt, byte-inj, byte-zero}
@@ -82,17 +80,6 @@ log-pow k h = ap logOf (sym (powers-one k h)) ∙ eqb→eq _ k (all-at 255 _ dis
 
 -- ---- the tables' rule
 
-unfoldable pub powerTable : List ℕ
-powerTable = powers 255 𝟏 ++ (0 ∷ [])
-
--- f i, f (i + 1), .. , n of them
-unfoldable pub tabulate : ℕ → ℕ → (ℕ → ℕ) → List ℕ
-tabulate zero i f = []
-tabulate (suc n) i f = f i ∷ tabulate n (suc i) f
-
-unfoldable pub logTable : List ℕ
-logTable = tabulate 256 0 logOf
-
 length-powers : (n : ℕ) (x : F) → length (powers n x) ≡ n
 unfolding powers
 length-powers zero x = refl
@@ -101,6 +88,12 @@ length-powers (suc n) x = ap suc (length-powers n (α ⊙ x))
 pub powerTable-at : (k : ℕ) → k < 255 → getD powerTable k 0 ≡ byte (pow α k)
 unfolding powerTable
 powerTable-at k h = List·getD-append (powers 255 𝟏) (0 ∷ []) 0 k (omega (arith, length-powers 255 𝟏)) ∙ powers-one k h
+
+pub powerTable-last : getD powerTable 255 0 ≡ 0
+unfolding powerTable
+powerTable-last =
+    ap (λ (n : ℕ). getD (powers 255 𝟏 ++ (0 ∷ [])) n 0) (sym (length-powers 255 𝟏))
+    ∙ getD-append-seam (powers 255 𝟏) 0 [] 0
 
 tabulate-at : (n i : ℕ) (f : ℕ → ℕ) (k : ℕ) → k < n → getD (tabulate n i f) k 0 ≡ f (i + k)
 unfolding tabulate
@@ -114,3 +107,14 @@ logTable-at b h = tabulate-at 256 0 logOf b h ∙ ap logOf (zero-add b ∙ sym (
 
 pub logTable-lt : (b : ℕ) → b < 256 → getD logTable b 0 < 255
 logTable-lt b h = omega (arith, logTable-at b h, log-lt (of b))
+
+length-tabulate : (n i : ℕ) (f : ℕ → ℕ) → length (tabulate n i f) ≡ n
+unfolding tabulate
+length-tabulate zero i f = refl
+length-tabulate (suc n) i f = ap suc (length-tabulate n (suc i) f)
+
+pub logTable-is : (l : List ℕ) → length l ≡ 256 → ((b : ℕ) → b < 256 → getD l b 0 ≡ log (of b)) → l ≡ logTable
+unfolding logTable
+logTable-is l n h =
+    ext-getD 0 l _ (n ∙ sym (length-tabulate 256 0 logOf))
+    (λ b s. let k : b < 256 = omega (arith, n) in h b k ∙ sym (logTable-at b k))

@@ -1,10 +1,10 @@
 // GF(256), the field of the code: bytes as polynomials over the two-element field, modulo z^8 + z^4 + z^3 + z^2 + 1
 // (285). The promises speak of the values F and their operations, defined in specs/Definition.antt: `val g` is the
 // value of a `Gf`. A product costs two logarithms and a power, whatever its factors are.
-ghost use Prim.Native.Nat.{ℕ, _<_};
+ghost use Prim.Native.Nat.{_<_};
 ghost use mathlib.Core.Path.{_≡_};
-ghost use lib.ListN.{getD};
-ghost use Rattle.field.specs.Definition.{_⊕_, _⊙_, α, pow, inv, log, of, isZero, val};
+ghost use mathlib.Core.List.{map};
+ghost use Rattle.field.specs.Definition.{_⊕_, _⊙_, α, pow, inv, log, isZero, val, named, powerTable, logTable};
 
 // A field value: bit i of the byte is the coefficient of z^i.
 pub struct Gf(pub u8);
@@ -12,7 +12,7 @@ pub struct Gf(pub u8);
 // An exponent of α, never a field value: the two tables alone lead from one to the other. Any number is one.
 pub struct Exponent(pub usize);
 
-// At k: α^k, for k below 255. The last entry is never read.
+// At k: α^k, for k below 255. The last entry is of no power, and 0.
 const POWER: [u8; 256] = *b"\x01\x02\x04\x08\x10\x20\x40\x80\x1d\x3a\x74\xe8\xcd\x87\x13\x26\
     \x4c\x98\x2d\x5a\xb4\x75\xea\xc9\x8f\x03\x06\x0c\x18\x30\x60\xc0\
     \x9d\x27\x4e\x9c\x25\x4a\x94\x35\x6a\xd4\xb5\x77\xee\xc1\x9f\x23\
@@ -48,11 +48,18 @@ const LOG: [u8; 256] = *b"\x00\x00\x01\x19\x02\x32\x1a\xc6\x03\xdf\x33\xee\x1b\x
     \xcb\x59\x5f\xb0\x9c\xa9\xa0\x51\x0b\xf5\x16\xeb\x7a\x75\x2c\xd7\
     \x4f\xae\xd5\xe9\xe6\xe7\xad\xe8\x74\xd6\xf4\xea\xa8\x50\x58\xaf";
 
-// The powers of α, for loops that read many of them.
+// The table of powers, for loops that read many of them: `Exponent::power_in` reads it.
 pub fn powers() -> [u8; 256]
-    ensures { λ r. ⌜ ((k : ℕ) → k < 255 → of (getD r k 0) ≡ pow α k) ⌝ }
+    ensures { λ r. ⌜ r ≡ powerTable ⌝ }
 {
     POWER
+}
+
+// The table of logarithms, for loops that read many of them: `Gf::log_in` reads it.
+pub fn logarithms() -> [u8; 256]
+    ensures { λ r. ⌜ r ≡ logTable ⌝ }
+{
+    LOG
 }
 
 impl Gf {
@@ -61,6 +68,13 @@ impl Gf {
     pub const ONE: Gf = Gf(1);
 
     pub const ALPHA: Gf = Gf(2);
+
+    // The named values, by what they are.
+    pub fn named() -> [Gf; 3]
+        ensures { λ r. ⌜ map val r ≡ named ⌝ }
+    {
+        [Gf::ZERO, Gf::ONE, Gf::ALPHA]
+    }
 
     pub fn is_zero(self) -> bool
         ensures { λ r. ⌜ r ≡ isZero (val self) ⌝ }
@@ -80,6 +94,16 @@ impl Gf {
     {
         let b = self.0 as usize;
         Exponent(LOG[b] as usize)
+    }
+
+    // The same, with the table lent.
+    pub fn log_in(self, table: &[u8; 256]) -> Exponent
+        requires { ⌜ now table ≡ logTable ⌝ }
+        ensures { λ r. ⌜ r .0 ≡ log (val self) ⌝ }
+    {
+        let b = self.0 as usize;
+        let e = table[b];
+        Exponent(e as usize)
     }
 
     pub fn product(self, other: Gf) -> Gf
@@ -114,5 +138,14 @@ impl Exponent {
         ensures { λ r. ⌜ val r ≡ pow α (self .0) ⌝ }
     {
         Gf(POWER[self.0 % 255])
+    }
+
+    // The same, with the table lent, for an exponent below 255.
+    pub fn power_in(self, table: &[u8; 256]) -> Gf
+        requires { ⌜ (now table ≡ powerTable) × (self .0 < 255) ⌝ }
+        ensures { λ r. ⌜ val r ≡ pow α (self .0) ⌝ }
+    {
+        let e = self.0;
+        Gf(table[e])
     }
 }

@@ -1,6 +1,5 @@
 -- What a pattern does: how many symbols it changes, and its syndromes, change by change; and its test.
 --
---   Powers l      l holds the powers of α, from the power 0 up to 254
 --   same? m f g   whether f and g agree below m
 --
 -- Proved: the syndromes of a change y at position p are X p times y, and each next one X p times the one before
@@ -10,10 +9,9 @@ use Prim.Native.Nat.{ℕ, suc, _+_, _*_, _≤_, _<_, _%_}
 use mathlib.Core.Path.{_≡_, sym, ap, ap₂, _∙_, fun-ext}
 use mathlib.Core.Logic.{_≢_, ite}
 use mathlib.Core.Bool.{false}
-use mathlib.Core.List.{List}
 use native.Mathlib.Numerals.{add-one}
 use native.Mathlib.Omega.{arith}
-use lib.ListN.{getD, replicate}
+use lib.ListN.{replicate}
 use Rattle.field.specs.Field.{F, 𝟎, α, _⊙_, _≟_, of, of-zero, log, ⊙-ring, ⊙-comm, pow}
 use Rattle.field.specs.Field.{pow-suc, pow-add, pow-log, power-mod}
 use Rattle.series.specs.Series.{Series, O, K, _⊞_, _⊠_, ⊠-ring, O-at, ⊞-at, K-zero, K-⊠-at}
@@ -28,9 +26,6 @@ use Rattle.settling.specs.Definition.{explains?}
 use Rattle.settling.specs.Locator.{X, lead-is, root-power}
 
 -- ---- one change
-
-abbrev pub Powers : List ℕ → Type 0
-Powers l = (k : ℕ) → k < 255 → of (getD l k 0) ≡ pow α k
 
 sum-exponent : (e p r : ℕ) (a : F) → r ≡ (e + p) % 255 → pow α e ≡ a → pow α r ≡ X p ⊙ a
 sum-exponent e p r a is h = ap (pow α) is ∙ power-mod (e + p) ∙ pow-add α e p ∙ ⊙-comm _ _ ∙ ap (λ t. X p ⊙ t) h

@@ -3,7 +3,7 @@
 --
 --   third a m f      f a + f (a + 3) + f (a + 6) + ..: m terms, every third one from term a on
 --   three x a b c    a + b·x + c·x²
---   Placed p f l     the array l of 255 bytes holds f at the positions q, q + 85 and q + 170, for every q below p
+--   Placed p f l     the array l of 255 symbols holds f at the positions q, q + 85 and q + 170, for every q below p
 --
 -- Proved: a value at W (p + q) from the thirds at W p, W q being a third root of one (value-three); w·w = w + 1 for
 -- w = W 85, so that two products by w are enough (spread-zero, spread-one, spread-two). A loop that adds thirds goes on
@@ -15,15 +15,16 @@ use mathlib.Core.List.{List}
 use native.Mathlib.Decide.{ℕ-discrete}
 use native.Mathlib.Omega.{arith}
 use lib.ListN.{length, getD, set, length-set}
+use Rattle.field.specs.declared.Gf.{Gf}
 use Rattle.field.specs.Field.{F, 𝟎, 𝟏, α, _⊕_, _⊙_, ⊕-self, ⊕-equal, ⊕-group, zero-⊕, ⊙-comm, ⊙-one}
-use Rattle.field.specs.Field.{one-⊙, ⊙-ring, ⊙-factor, of, of-zero, pow, pow-zero, pow-one, pow-suc}
+use Rattle.field.specs.Field.{one-⊙, ⊙-ring, ⊙-factor, of, val, val-of, pow, pow-zero, pow-one, pow-suc}
 use Rattle.field.specs.Field.{pow-add, pow-mul, one-pow, power-apart}
 use Rattle.series.specs.Sum.{sum, sum-none, sum-suc, sum-cong, sum-more, ⊙-sum}
 use Rattle.series.specs.Series.{Series}
 use Rattle.series.specs.Shift.{cut, cut-low, cut-unique}
 use Rattle.series.specs.Degree.{below}
 use Rattle.series.specs.Value.{value, value-cong}
-use Rattle.series.specs.Array.{bytes, read-at, below-read, read-set-same, read-set-other}
+use Rattle.series.specs.Array.{values, below-values, read-at, read-set-same, read-set-other}
 use Rattle.kernel.specs.ProductRow.{ProductRow, factor, row-at}
 use Rattle.settling.specs.Locator.{W, W-is}
 use Rattle.settle.specs.PositionsTerm.{W-zero, W-add, terms, terms-at, terms-add, value-terms}
@@ -124,9 +125,9 @@ square = ⊕-equal _ _ (⊙-factor (w ⊕ 𝟏) _ apart
     product = simp ⊙-ring
 
 -- a product by a lookup
-pub product-at : (l : List ℕ) (w : F) (x i : ℕ) → ProductRow l → factor l ≡ w → i ≡ x → i < 256
-    → of (getD l i 0) ≡ w ⊙ of x
-product-at l w x i p e is h = sym (read-at of 0 l i) ∙ row-at l i p h ∙ ap₂ _⊙_ e (ap of is)
+pub product-at : (l : List ℕ) (w : F) (x : Gf) (i : ℕ) → ProductRow l → factor l ≡ w → i ≡ x .0 → i < 256
+    → of (getD l i 0) ≡ w ⊙ val x
+product-at l w x i p e is h = sym (read-at of 0 l i) ∙ row-at l i p h ∙ ap₂ _⊙_ e (ap of is ∙ sym (val-of x))
 
 module _ (a b c : F) where
   pub spread-zero : a ⊕ b ⊕ c ≡ three (W 0) a b c
@@ -145,15 +146,15 @@ module _ (a b c : F) where
 
 -- ---- three places at a time
 
-pub record Placed (p : ℕ) (f : Series) (l : List ℕ) : Type 0 where
+pub record Placed (p : ℕ) (f : Series) (l : List Gf) : Type 0 where
   pub long : length l ≡ 255
-  pub at : (j : ℕ) → j < 255 → j % 85 < p → bytes l j ≡ f j
+  pub at : (j : ℕ) → j < 255 → j % 85 < p → values l j ≡ f j
 
-pub placed-none : (f : Series) (l : List ℕ) → length l ≡ 255 → Placed 0 f l
+pub placed-none : (f : Series) (l : List Gf) → length l ≡ 255 → Placed 0 f l
 placed-none f l h = record { long = h; at = λ j b z. absurd (omega arith) }
 
-pub placed-more : {p : ℕ} {f : Series} {l : List ℕ} (x y z : ℕ)
-    → Placed p f l → p < 85 → of x ≡ f p → of y ≡ f (p + 85) → of z ≡ f (p + 170)
+pub placed-more : {p : ℕ} {f : Series} {l : List Gf} (x y z : Gf)
+    → Placed p f l → p < 85 → val x ≡ f p → val y ≡ f (p + 85) → val z ≡ f (p + 170)
     → Placed (p + 1) f (set (set (set l p x) (p + 85) y) (p + 170) z)
 placed-more {p} {f} {l} x y z t h ex ey ez =
     record {
@@ -161,10 +162,10 @@ placed-more {p} {f} {l} x y z t h ex ey ez =
       at = λ j b r. go j b r (ℕ-discrete j (p + 170)) (ℕ-discrete j (p + 85)) (ℕ-discrete j p);
     }
   where
-    n : List ℕ
+    n : List Gf
     n = set l p x
 
-    m : List ℕ
+    m : List Gf
     m = set n (p + 85) y
 
     long1 : length n ≡ 255
@@ -174,22 +175,22 @@ placed-more {p} {f} {l} x y z t h ex ey ez =
     long2 = length-set n (p + 85) y ∙ long1
 
     go : (j : ℕ) → j < 255 → j % 85 < p + 1 → Dec (j ≡ p + 170) → Dec (j ≡ p + 85) → Dec (j ≡ p)
-        → bytes (set m (p + 170) z) j ≡ f j
-    go j b r (yes e) d c = rw e (read-set-same of 0 m (p + 170) z (omega (arith, long2)) ∙ ez)
-    go j b r (no e) (yes d) c = read-set-other of 0 m (p + 170) j z e
-        ∙ rw d (read-set-same of 0 n (p + 85) y (omega (arith, long1)) ∙ ey)
+        → values (set m (p + 170) z) j ≡ f j
+    go j b r (yes e) d c = rw e (read-set-same val _ m (p + 170) z (omega (arith, long2)) ∙ ez)
+    go j b r (no e) (yes d) c = read-set-other val _ m (p + 170) j z e
+        ∙ rw d (read-set-same val _ n (p + 85) y (omega (arith, long1)) ∙ ey)
     go j b r (no e) (no d) (yes c) =
-        read-set-other of 0 m (p + 170) j z e ∙ read-set-other of 0 n (p + 85) j y d
-        ∙ rw c (read-set-same of 0 l p x (omega (arith, t .long)) ∙ ex)
+        read-set-other val _ m (p + 170) j z e ∙ read-set-other val _ n (p + 85) j y d
+        ∙ rw c (read-set-same val _ l p x (omega (arith, t .long)) ∙ ex)
     go j b r (no e) (no d) (no c) =
-        read-set-other of 0 m (p + 170) j z e ∙ read-set-other of 0 n (p + 85) j y d ∙ read-set-other of 0 l p j x c
+        read-set-other val _ m (p + 170) j z e ∙ read-set-other val _ n (p + 85) j y d ∙ read-set-other val _ l p j x c
         ∙ t .at j b (omega arith)
 
 -- values of g, which holds the first k coefficients of f
-pub placed-all : (k : ℕ) (f g : Series) {l : List ℕ} → g ≡ cut k f → Placed 85 (λ q. value k g (W q)) l
-    → bytes l ≡ cut 255 (λ q. value k f (W q))
+pub placed-all : (k : ℕ) (f g : Series) {l : List Gf} → g ≡ cut k f → Placed 85 (λ q. value k g (W q)) l
+    → values l ≡ cut 255 (λ q. value k f (W q))
 placed-all k f g {l} e t =
-    sym (cut-unique 255 _ (bytes l) (λ j h. sym (at j h)) (λ j h. below-read of 0 of-zero l j (omega (arith, t .long))))
+    sym (cut-unique 255 _ (values l) (λ j h. sym (at j h)) (λ j h. below-values 255 l (t .long) j h))
   where
-    at : (j : ℕ) → j < 255 → bytes l j ≡ value k f (W j)
+    at : (j : ℕ) → j < 255 → values l j ≡ value k f (W j)
     at j h = t .at j h (omega arith) ∙ ap (λ s. value k s (W j)) e ∙ value-cong k _ _ (W j) (cut-low k f)

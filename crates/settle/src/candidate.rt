@@ -40,7 +40,8 @@ fn odd_part(f: [Gf; COEFFICIENTS], k: usize) -> [u8; TERMS]
     out
 }
 
-// Forney's formula at position p: one row of products serves both values.
+// Forney's formula at position p: one row of products serves both values. With many changes every root comes here, so
+// its two products read no table.
 fn forney(p: usize, denominator: &[u8], numerator: &[u8]) -> Gf
     requires { ⌜ p ≤ 255 ⌝ }
     ensures { λ r. ⌜ val r ≡
@@ -75,7 +76,7 @@ fn walk(locator: [Gf; COEFFICIENTS], numerator: &[u8], roots: usize, n: usize) -
                 pattern: pattern,
             };
         }
-        let v = Gf(values[p]);
+        let v = values[p];
         if v.is_zero() {
             pattern[p] = forney(p, &odds[..k], numerator);
             missing = missing - 1;
@@ -121,7 +122,7 @@ fn locate_one(locator: [Gf; COEFFICIENTS], numerator: &[u8], n: usize) -> Locate
         };
     }
     let top = short_value(Exponent(255 - p).power(), numerator);
-    pattern[p] = kernel::product(top, b.inverse());
+    pattern[p] = top.product(b.inverse());
     Located {
         whole: true,
         pattern: pattern,

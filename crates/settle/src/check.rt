@@ -3,7 +3,7 @@ ghost use Prim.Native.Nat.{suc, _+_, _≤_, _<_, _%_};
 ghost use mathlib.Core.Path.{_≡_};
 ghost use mathlib.Core.Logic.{_≢_, ite};
 ghost use lib.ListN.{length};
-ghost use Rattle.field.specs.Field.{𝟎, _≟_, pow, val};
+ghost use Rattle.field.specs.Field.{𝟎, _≟_, pow, val, powerTable};
 ghost use Rattle.series.specs.Series.{K, _⊞_, _⊠_};
 ghost use Rattle.series.specs.Shift.{cut};
 ghost use Rattle.series.specs.Array.{values, bytes};
@@ -12,7 +12,8 @@ ghost use Rattle.series.specs.Word.{weight};
 ghost use Rattle.polynomial.specs.Polynomial.{row as Row};
 ghost use Rattle.code.specs.Word.{root, syndrome};
 ghost use Rattle.settling.specs.Definition.{explains?};
-ghost use Rattle.settle.specs.Effect.{Powers, same?};
+ghost use Rattle.settle.specs.Effect.{same?};
+use field::Exponent;
 use field::Gf;
 use polynomial::SYNDROMES;
 use profile::POSITIONS;
@@ -30,36 +31,37 @@ struct Effect {
 }
 
 // The sum of two exponents, modulo 255.
-fn exponent(e: usize, p: usize) -> usize
-    requires { ⌜ (e < 255) × (p < 255) ⌝ }
-    ensures { λ r. ⌜ r ≡ (e + p) % 255 ⌝ }
+fn exponent(e: Exponent, x: Exponent) -> Exponent
+    requires { ⌜ (e .0 < 255) × (x .0 < 255) ⌝ }
+    ensures { λ r. ⌜ r .0 ≡ (e .0 + x .0) % 255 ⌝ }
 {
-    let s = e + p;
+    let s = e.0 + x.0;
     if s < 255 {
-        return s;
+        return Exponent(s);
     }
-    s - 255
+    Exponent(s - 255)
 }
 
 // Adds the first m syndromes of a change y, which is not zero, at position p: each is a power of α, and its exponent p
 // more than the one before, so that no lookup waits for another.
 fn add_change(power: &[u8; 256], p: usize, y: Gf, m: usize, to: &mut [u8])
-    requires { ⌜ Powers (now power) × (p < 255) × (val y ≢ 𝟎) × (m ≤ length (now to)) ⌝ }
+    requires { ⌜ (now power ≡ powerTable) × (p < 255) × (val y ≢ 𝟎) × (m ≤ length (now to)) ⌝ }
     ensures { λ _. ⌜ bytes (now (to .exit)) ≡ bytes (now (to .entry)) ⊞ K (val y) ⊠ cut m (λ j. pow (root j) p) ⌝ }
 {
-    let log = y.log();
-    let mut e = exponent(log.0, p);
+    let x = Exponent(p);
+    let mut e = exponent(y.log(), x);
     let mut j: usize = 0;
     while j < m {
-        to[j] = to[j] ^ power[e];
-        e = exponent(e, p);
+        let s = e.power_in(power);
+        to[j] = to[j] ^ s.0;
+        e = exponent(e, x);
         j = j + 1;
     }
 }
 
 // Adds the first m syndromes of y at position p, if it is a change, and counts it.
 fn count_change(power: &[u8; 256], count: usize, p: usize, y: Gf, m: usize, to: &mut [u8]) -> usize
-    requires { ⌜ Powers (now power) × (count < 255) × (p < 255) × (m ≤ length (now to)) ⌝ }
+    requires { ⌜ (now power ≡ powerTable) × (count < 255) × (p < 255) × (m ≤ length (now to)) ⌝ }
     ensures { λ r. ⌜ (r ≡ ite (val y ≟ 𝟎) count (suc count)) ×
         (bytes (now (to .exit)) ≡ bytes (now (to .entry)) ⊞ K (val y) ⊠ cut m (λ j. pow (root j) p)) ⌝ }
 {

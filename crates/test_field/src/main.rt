@@ -1,6 +1,6 @@
-// Prints what the field computes, a line of numbers each: the logarithms of the bytes, the powers of α below 255, the
-// inverses of the bytes from 1 on, and for every byte its products with all bytes. The file `stdout` holds the same
-// numbers from an independent program.
+// Prints what the field computes, a line of numbers each: zero, one and α, the logarithms of the bytes, the powers of α
+// below 255, the inverses of the bytes from 1 on, and for every byte its products with all bytes. The file `stdout`
+// holds the same numbers from an independent program.
 use field::Exponent;
 use field::Gf;
 
@@ -11,18 +11,23 @@ fn byte(n: usize) -> u8 {
 // Number i of a line.
 fn cell(line: usize, i: usize) -> u8 {
     if line == 0 {
+        let named = Gf::named();
+        let r = named[i % 3];
+        return r.0;
+    }
+    if line == 1 {
         let k = Gf(byte(i)).log();
         return byte(k.0);
     }
-    if line == 1 {
+    if line == 2 {
         let r = Exponent(i).power();
         return r.0;
     }
-    if line == 2 {
+    if line == 3 {
         let r = Gf(byte(i % 255 + 1)).inverse();
         return r.0;
     }
-    let r = Gf(byte(line - 3)).product(Gf(byte(i)));
+    let r = Gf(byte(line - 4)).product(Gf(byte(i)));
     r.0
 }
 
@@ -33,7 +38,10 @@ fn print(n: u8, after: &[u8]) {
 
 // The last index of a line.
 fn end(line: usize) -> usize {
-    if line == 1 || line == 2 { 254 } else { 255 }
+    if line == 0 {
+        return 2;
+    }
+    if line == 2 || line == 3 { 254 } else { 255 }
 }
 
 fn print_line(line: usize) {
@@ -48,7 +56,7 @@ fn print_line(line: usize) {
 
 fn main() {
     let mut line: usize = 0;
-    while line < 259 {
+    while line < 260 {
         print_line(line);
         line = line + 1;
     }

@@ -1,8 +1,7 @@
 -- The entries are the roots: antt computes the test here.
 use mathlib.Core.Bool.{xor}
 use Rattle.field.specs.Definition.{𝟎, 𝟏, α, _⊕_, _⊙_, times, plus, scale, z⁸, horner, modulo}
-use Rattle.field.specs.Definition.{coefficients, bit, byte, powers}
-use Rattle.field.specs.Log.{powerTable}
+use Rattle.field.specs.Definition.{coefficients, bit, byte, powers, powerTable}
 use Rattle.field.specs.Test.{all}
 use Rattle.divider.specs.EvaluationLanes.{roots?, roots}
 use borrow.Author.Needs.{needs}

@@ -4,9 +4,9 @@ use mathlib.Core.Bool.{xor}
 use Prim.Native.Nat.{_%_}
 use native.Mathlib.Omega.{arith}
 use Rattle.field.specs.Definition.{𝟎, 𝟏, α, _⊕_, _⊙_, times, plus, scale, z⁸, horner, modulo}
-use Rattle.field.specs.Definition.{coefficients, bit, byte, powers, val, of}
+use Rattle.field.specs.Definition.{coefficients, bit, byte, powers, val, of, powerTable}
 use Rattle.field.specs.Byte.{of-byte}
-use Rattle.field.specs.Log.{powerTable, powerTable-at}
+use Rattle.field.specs.Log.{powerTable-at}
 use Rattle.field.specs.Inverse.{power-mod}
 use borrow.Author.Needs.{needs}
 use Rattle.field.proofs.Exponent.power.Statement.{statement}

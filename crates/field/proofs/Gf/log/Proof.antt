@@ -2,8 +2,8 @@
 use mathlib.Core.Bool.{xor}
 use native.Mathlib.Omega.{arith}
 use Rattle.field.specs.Definition.{𝟎, 𝟏, α, _⊕_, _⊙_, times, plus, scale, z⁸, horner, modulo, coefficients, bit}
-use Rattle.field.specs.Definition.{byte, powers, place, logOf, val}
-use Rattle.field.specs.Log.{tabulate, logTable, logTable-at, logTable-lt}
+use Rattle.field.specs.Definition.{byte, powers, place, logOf, val, tabulate, logTable}
+use Rattle.field.specs.Log.{logTable-at, logTable-lt}
 use borrow.Author.Needs.{needs}
 use Rattle.field.proofs.Gf.log.Statement.{statement}
 use Rattle.field.proofs.Gf.log.Tie as tie

@@ -5,11 +5,11 @@ use mathlib.Core.Logic.{⊎-elim}
 use native.Mathlib.Omega.{arith}
 use lib.ListN.{length}
 use lib.Seq.{length-take-le}
-use Rattle.field.specs.Field.{of, of-zero, val-of, isZero-true, isZero-false}
+use Rattle.field.specs.Field.{of, of-zero, val, isZero-true, isZero-false}
 use Rattle.series.specs.Series.{Series}
 use Rattle.series.specs.Shift.{cut, cut-low}
 use Rattle.series.specs.Value.{value, odd}
-use Rattle.series.specs.Array.{bytes, read-at, below-read}
+use Rattle.series.specs.Array.{values as Values, bytes, read-at, below-read}
 use Rattle.settling.specs.Locator.{W}
 use Rattle.settle.specs.CandidateOdd.{odds-value}
 use Rattle.settle.specs.CandidateLocated.{Walking, walking-start, walking-root}
@@ -20,7 +20,7 @@ use Rattle.settle.proofs.candidate.walk.Tie as tie
 
 abbrev Inv-loop : tie.InvT-loop
 Inv-loop numerator roots n k values odds pattern₀ missing₀ p₀ pattern missing p =
-    (p ≤ n) × ((Λ : Series) → bytes values ≡ cut 255 (λ q. value k Λ (W q)) → bytes odds ≡ cut k (odd Λ)
+    (p ≤ n) × ((Λ : Series) → Values values ≡ cut 255 (λ q. value k Λ (W q)) → bytes odds ≡ cut k (odd Λ)
     → Walking k roots Λ (bytes numerator) p missing pattern)
 
 abbrev μ-loop : tie.MeasureT-loop
@@ -47,8 +47,8 @@ returns c =
     walked-few (now .inv .1 _ (c .before .before .before .before .at-positions .ensures)
     (c .before .before .before .odd-part .ensures)) _ (now .inv .0) (omega arith)
 
-array-read-t20 : tie.Need-array-read-t20 Inv-loop μ-loop
-array-read-t20 c = search needs
+array-copy-out-v : tie.Need-array-copy-out-v Inv-loop μ-loop
+array-copy-out-v c = search needs
 
 is-zero-requires : tie.Need-is-zero-requires Inv-loop μ-loop
 is-zero-requires c κs = search needs
@@ -59,7 +59,7 @@ array-share-prefix-odds c = search needs
 slice-aggregate-forney : tie.Need-slice-aggregate-forney Inv-loop μ-loop
 slice-aggregate-forney c =
     let at-loop-test = c .before .before .before .before in
-    let at-odd-part = at-loop-test .before .before in
+    let at-odd-part = at-loop-test .before .before .before in
     sym (length-take-le _ (at-odd-part .odd-part .result) (omega arith))
 
 forney-requires : tie.Need-forney-requires Inv-loop μ-loop
@@ -79,7 +79,8 @@ loop-less c = search needs
 
 loop-again : tie.Need-loop-again Inv-loop μ-loop
 loop-again c =
-    let at-loop = c .before .before .before .before in
+    let turn = c .before .before .before .before in
+    let at-loop = turn .before in
     let at-odd-part = at-loop .before in
     let given = at-odd-part .before .before .before in
     let now = at-loop .loop in
@@ -89,7 +90,7 @@ loop-again c =
       λ Λ is odd-is.
           let at = now .inv .1 Λ is odd-is in
           let here = sym (cut-low 255 _ (now .p) (omega arith)) ∙ ap (λ (f : Series). f (now .p)) (sym is)
-          ∙ read-at of 0 _ (now .p) ∙ sym (val-of _) in
+          ∙ read-at val _ _ (now .p) in
           ⊎-elim
           (λ w. walking-root at (length (given .args .numerator .now)) _ _ _ _ (here
           ∙ isZero-true _ (test ∙ w .0 .taken)) (below-read of 0 of-zero _) (given .pre .2) (omega arith) (omega arith)
@@ -117,7 +118,7 @@ walk-spec =
     loop-holds
     sub-if1
     returns
-    array-read-t20
+    array-copy-out-v
     is-zero-requires
     array-share-prefix-odds
     slice-aggregate-forney

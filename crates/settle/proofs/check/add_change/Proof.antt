@@ -3,7 +3,7 @@ use Prim.Native.Nat.{_-_, _≤_, _<_}
 use mathlib.Core.Path.{_≡_, refl, sym, ap, _∙_}
 use native.Mathlib.Omega.{arith}
 use lib.ListN.{length, length-set}
-use Rattle.field.specs.Field.{F, α, _⊕_, _⊙_, ⊙-one, val, pow, pow-zero, log-lt}
+use Rattle.field.specs.Field.{F, α, _⊕_, _⊙_, ⊙-one, val, val-of, pow, pow-zero, log-lt}
 use Rattle.series.specs.Series.{Series, K, _⊞_, _⊠_}
 use Rattle.series.specs.Shift.{cut}
 use Rattle.series.specs.Array.{bytes}
@@ -15,12 +15,12 @@ use Rattle.settle.proofs.check.add_change.Statement.{statement}
 use Rattle.settle.proofs.check.add_change.Tie as tie
 
 abbrev Inv-loop : tie.InvT-loop
-Inv-loop power p m to₀ e₀ j₀ to e j =
-    (j ≤ m) × (length to ≡ length to₀) × (e < 255) × (pow α e ≡ pow α e₀ ⊙ pow (X p) j)
-    × (bytes to ≡ bytes to₀ ⊞ K (pow α e₀) ⊠ cut j (pow (X p)))
+Inv-loop power p m to₀ x e₀ j₀ to e j =
+    (j ≤ m) × (length to ≡ length to₀) × (e .0 < 255) × (pow α (e .0) ≡ pow α (e₀ .0) ⊙ pow (X p) j)
+    × (bytes to ≡ bytes to₀ ⊞ K (pow α (e₀ .0)) ⊠ cut j (pow (X p)))
 
 abbrev μ-loop : tie.MeasureT-loop
-μ-loop power p m to₀ e₀ j₀ to e j = m - j
+μ-loop power p m to₀ x e₀ j₀ to e j = m - j
 
 log-requires : tie.Need-log-requires Inv-loop μ-loop
 log-requires c κs = search needs
@@ -35,15 +35,15 @@ loop-holds c = (
   search needs,
   refl,
   omega (arith, c .exponent .ensures),
-  sym (ap (λ t. pow α (c .exponent .result) ⊙ t) (pow-zero _) ∙ ⊙-one _),
+  sym (ap (λ t. pow α (c .exponent .result .0) ⊙ t) (pow-zero _) ∙ ⊙-one _),
   multiple-none _ _ _,
 )
 
+power-in-requires : tie.Need-power-in-requires Inv-loop μ-loop
+power-in-requires c κs = search needs
+
 slice-read-to : tie.Need-slice-read-to Inv-loop μ-loop
 slice-read-to c = search needs
-
-element-copy-out-to : tie.Need-element-copy-out-to Inv-loop μ-loop
-element-copy-out-to c = search needs
 
 slice-write-to : tie.Need-slice-write-to Inv-loop μ-loop
 slice-write-to c = search needs
@@ -59,17 +59,17 @@ loop-less c = search needs
 
 loop-again : tie.Need-loop-again Inv-loop μ-loop
 loop-again c =
-    let at-loop = c .before .before .before .before in
-    let given = at-loop .before .before .before .before in
+    let at-power = c .before .before .before in
+    let at-loop = at-power .before .before in
     let now = at-loop .loop in
     let is = c .exponent2 .ensures in (
       omega arith,
       length-set (now .to) _ _ ∙ now .inv .1,
       omega (arith, is),
-      next-exponent (now .e) _ _ (now .j) _ is (now .inv .3),
+      next-exponent (now .e .0) _ _ (now .j) _ is (now .inv .3),
       multiple-more (now .to) (now .j) _ _ _ _ (omega arith) (now .inv .4)
           (bytes-xor (now .to) (now .j) _
-          ∙ ap (λ (s : F). bytes (now .to) (now .j) ⊕ s) (given .pre .0 (now .e) (now .inv .2) ∙ now .inv .3)),
+          ∙ ap (λ (s : F). bytes (now .to) (now .j) ⊕ s) (sym (val-of _) ∙ at-power .power-in .ensures ∙ now .inv .3)),
     )
 
 same-length : tie.Need-same-length Inv-loop μ-loop
@@ -95,8 +95,8 @@ add-change-spec =
     log-requires
     exponent-requires
     loop-holds
+    power-in-requires
     slice-read-to
-    element-copy-out-to
     slice-write-to
     exponent-requires-2
     add-j

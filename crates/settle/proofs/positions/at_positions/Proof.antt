@@ -2,14 +2,13 @@
 use Prim.Native.Nat.{ℕ, _+_, _-_, _≤_}
 use mathlib.Core.Path.{_≡_, refl, sym, ap, _∙_}
 use native.Mathlib.Omega.{arith}
-use lib.ListN.{length}
-use Rattle.field.specs.Field.{𝟏, of, pow}
+use Rattle.field.specs.Field.{𝟏, val, pow}
 use Rattle.series.specs.Degree.{below, below-cut}
 use Rattle.series.specs.Value.{value}
 use Rattle.kernel.specs.ProductRow.{row-products, factor-products}
 use Rattle.settling.specs.Locator.{W, W-is}
 use Rattle.settle.specs.PositionsTerm.{W-nonzero, terms, below-terms, terms-first, terms-add}
-use Rattle.settle.specs.PositionsExponent.{symbols, table-set, steps-terms}
+use Rattle.settle.specs.PositionsExponent.{symbols, steps-terms}
 use Rattle.settle.specs.PositionsThird.{three, value-three, cube-zero, cube-one, cube-two, Placed}
 use Rattle.settle.specs.PositionsThird.{placed-none, placed-more, placed-all}
 use borrow.Author.Needs.{needs}
@@ -18,16 +17,13 @@ use Rattle.settle.proofs.positions.at_positions.Tie as tie
 
 abbrev Inv-loop : tie.InvT-loop
 Inv-loop k power row e₀ step out₀ p₀ e out p =
-    (p ≤ 85) × (length e ≡ 32) × (symbols e ≡ terms (W p) (symbols e₀)) × Placed p (λ q. value k (symbols e₀) (W q)) out
+    (p ≤ 85) × (symbols e ≡ terms (W p) (symbols e₀)) × Placed p (λ q. value k (symbols e₀) (W q)) out
 
 abbrev μ-loop : tie.MeasureT-loop
 μ-loop k power row e₀ step out₀ p₀ e out p = 85 - p
 
 powers-requires : tie.Need-powers-requires Inv-loop μ-loop
 powers-requires c κs = search needs
-
-array-write-power : tie.Need-array-write-power Inv-loop μ-loop
-array-write-power c = search needs
 
 power-requires : tie.Need-power-requires Inv-loop μ-loop
 power-requires c κs = search needs
@@ -42,7 +38,7 @@ steps-requires : tie.Need-steps-requires Inv-loop μ-loop
 steps-requires c κs = (search needs, rw (c .exponents .ensures) (below-cut _ _))
 
 loop-holds : tie.Need-loop-holds Inv-loop μ-loop
-loop-holds c = (search needs, search needs, terms-first _, placed-none _ _ (search needs))
+loop-holds c = (search needs, terms-first _, placed-none _ _ (search needs))
 
 sums-requires : tie.Need-sums-requires Inv-loop μ-loop
 sums-requires c κs =
@@ -52,44 +48,43 @@ sums-requires c κs =
     let given = table .before in
     let now = at-loop .loop in
     let k = given .args .k in (
-      table-set (table .powers .result) (search needs) (table .powers .ensures),
-      now .inv .1,
+      table .powers .ensures,
       given .pre,
-      rw (now .inv .2) (below-terms k (W (now .p)) _ (rw (made .exponents .ensures) (below-cut k _))),
+      rw (now .inv .1) (below-terms k (W (now .p)) _ (rw (made .exponents .ensures) (below-cut k _))),
     )
 
 spread-requires : tie.Need-spread-requires Inv-loop μ-loop
 spread-requires c κs =
-    let at-loop-test = c .before .before .before .before in
-    let made = at-loop-test .before .before .before .before in
+    let at-loop = c .before .before .before .before in
+    let made = at-loop .before .before .before in
     let at-power = made .before in
     let row = made .product-row .ensures in (
       row-products _ _ (search needs) row,
       factor-products _ _ row ∙ at-power .power .ensures ∙ sym (W-is 85 (omega arith)),
     )
 
-array-write-out : tie.Need-array-write-out Inv-loop μ-loop
-array-write-out c = search needs
+array-set-from-out : tie.Need-array-set-from-out Inv-loop μ-loop
+array-set-from-out c = search needs
 
 add-out : tie.Need-add-out Inv-loop μ-loop
 add-out c = search needs
 
-array-write-out-2 : tie.Need-array-write-out-2 Inv-loop μ-loop
-array-write-out-2 c = search needs
+array-set-from-out-2 : tie.Need-array-set-from-out-2 Inv-loop μ-loop
+array-set-from-out-2 c = search needs
 
 add-out-2 : tie.Need-add-out-2 Inv-loop μ-loop
 add-out-2 c = search needs
 
-array-write-out-3 : tie.Need-array-write-out-3 Inv-loop μ-loop
-array-write-out-3 c = search needs
+array-set-from-out-3 : tie.Need-array-set-from-out-3 Inv-loop μ-loop
+array-set-from-out-3 c = search needs
 
 next-requires : tie.Need-next-requires Inv-loop μ-loop
 next-requires c κs =
-    let at-sums = c .before .before in
-    let at-loop = at-sums .before .before .before .before in
+    let spreads = c .before .before .before in
+    let at-loop = spreads .before .before .before .before .before in
     let made = at-loop .before in
     let now = at-loop .loop in
-    rw (now .inv .2) (steps-terms (W (now .p)) _ (made .steps .result) (W-nonzero (now .p)) (made .steps .ensures))
+    rw (now .inv .1) (steps-terms (W (now .p)) _ (made .steps .result) (W-nonzero (now .p)) (made .steps .ensures))
 
 add-p : tie.Need-add-p Inv-loop μ-loop
 add-p c = search needs
@@ -99,11 +94,12 @@ loop-less c = search needs
 
 loop-again : tie.Need-loop-again Inv-loop μ-loop
 loop-again c =
-    let added = c .before .before .before in
+    let at-spread = c .before .before .before .before in
+    let added = at-spread .before in
     let at-loop = added .before .before .before .before in
     let made = at-loop .before .before in
     let given = made .before .before .before .before in
-    let spread = c .before .spread .ensures in
+    let spread = at-spread .spread .ensures in
     let s = added .sums .result in
     let sums = added .sums .ensures in
     let now = at-loop .loop in
@@ -112,13 +108,12 @@ loop-again c =
     let f = symbols (made .exponents .result) in
     let low : below k f = rw (made .exponents .ensures) (below-cut k _) in
     let at : (q r : ℕ) → pow (W q) 3 ≡ 𝟏 → r ≡ p + q
-    → three (W q) (of (s .a)) (of (s .b)) (of (s .c)) ≡ value k f (W r) =
-    λ q r root is. value-three k p q r f _ _ _ _ low (omega (arith, given .pre)) root is (now .inv .2) (sums .0)
+    → three (W q) (val (s .a)) (val (s .b)) (val (s .c)) ≡ value k f (W r) =
+    λ q r root is. value-three k p q r f _ _ _ _ low (omega (arith, given .pre)) root is (now .inv .1) (sums .0)
     (sums .1) (sums .2) in (
       omega arith,
-      search needs,
-      c .next .ensures ∙ ap (terms (W 1)) (now .inv .2) ∙ terms-add p 1 f,
-      placed-more _ _ _ (now .inv .3) (omega arith)
+      c .next .ensures ∙ ap (terms (W 1)) (now .inv .1) ∙ terms-add p 1 f,
+      placed-more _ _ _ (now .inv .2) (omega arith)
           (spread .0 ∙ at 0 p cube-zero (omega arith)) (spread .1 ∙ at 85 (p + 85) cube-one refl)
           (spread .2 ∙ at 170 (p + 170) cube-two refl),
     )
@@ -128,7 +123,7 @@ returns c =
     let end = c .before .loop in
     let made = c .before .before .before in
     let e : end .p ≡ 85 = omega arith in
-    placed-all _ _ _ (made .exponents .ensures) (rw e at (end .inv .3))
+    placed-all _ _ _ (made .exponents .ensures) (rw e at (end .inv .2))
 
 pub at-positions-spec : {M : Type 1} → statement M
 at-positions-spec =
@@ -137,7 +132,6 @@ at-positions-spec =
     Inv-loop
     μ-loop
     powers-requires
-    array-write-power
     power-requires
     product-row-requires
     exponents-requires
@@ -145,11 +139,11 @@ at-positions-spec =
     loop-holds
     sums-requires
     spread-requires
-    array-write-out
+    array-set-from-out
     add-out
-    array-write-out-2
+    array-set-from-out-2
     add-out-2
-    array-write-out-3
+    array-set-from-out-3
     next-requires
     add-p
     loop-less

@@ -16,8 +16,8 @@ returns c = symbol-none ∙ sym (isZero-true _ (sym (c .before .is-zero .ensures
 log-requires : tie.Need-log-requires
 log-requires c κs = search needs
 
-cast-result : tie.Need-cast-result
-cast-result c = omega (arith, c .before .log .ensures, log-lt (val (c .before .before .before .before .args .g)))
+cast-t4 : tie.Need-cast-t4
+cast-t4 c = omega (arith, c .before .log .ensures, log-lt (val (c .before .before .before .before .args .g)))
 
 returns-2 : tie.Need-returns-2
 returns-2 c =
@@ -25,4 +25,4 @@ returns-2 c =
     symbol-log _ _ (isZero-false _ (sym (arm .before .is-zero .ensures) ∙ arm .if1 .left)) (c .before .log .ensures)
 
 pub exponent-spec : {M : Type 1} → statement M
-exponent-spec = tie.close (tie.spec is-zero-requires returns log-requires cast-result returns-2)
+exponent-spec = tie.close (tie.spec is-zero-requires returns log-requires cast-t4 returns-2)

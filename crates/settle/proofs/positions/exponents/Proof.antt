@@ -6,7 +6,7 @@ use lib.ListN.{length, length-set}
 use Rattle.series.specs.Shift.{cut}
 use Rattle.series.specs.Array.{read-zeros, read-store}
 use Rattle.polynomial.specs.Polynomial.{poly, poly-at}
-use Rattle.settle.specs.PositionsExponent.{symbol, symbol-none, symbols}
+use Rattle.settle.specs.PositionsExponent.{lane, symbol-none, symbols}
 use borrow.Author.Needs.{needs}
 use Rattle.settle.proofs.positions.exponents.Statement.{statement}
 use Rattle.settle.proofs.positions.exponents.Tie as tie
@@ -18,7 +18,7 @@ abbrev μ-loop : tie.MeasureT-loop
 μ-loop k f out₀ i₀ out i = k - i
 
 loop-holds : tie.Need-loop-holds Inv-loop μ-loop
-loop-holds c = (search needs, search needs, read-zeros symbol 255 symbol-none 32 _)
+loop-holds c = (search needs, search needs, read-zeros lane _ symbol-none 32 _)
 
 array-copy-out-exponent : tie.Need-array-copy-out-exponent Inv-loop μ-loop
 array-copy-out-exponent c = search needs
@@ -26,8 +26,8 @@ array-copy-out-exponent c = search needs
 exponent-requires : tie.Need-exponent-requires Inv-loop μ-loop
 exponent-requires c κs = search needs
 
-array-write-out : tie.Need-array-write-out Inv-loop μ-loop
-array-write-out c = search needs
+array-set-from-out : tie.Need-array-set-from-out Inv-loop μ-loop
+array-set-from-out c = search needs
 
 add-i : tie.Need-add-i Inv-loop μ-loop
 add-i c = search needs
@@ -41,7 +41,7 @@ loop-again c =
     let f = c .before .before .before .before .args .t1 in (
       omega arith,
       length-set (now .out) _ _ ∙ now .inv .1,
-      read-store symbol 255 (now .out) (now .i) _ _ (omega arith) (now .inv .2)
+      read-store lane _ (now .out) (now .i) _ _ (omega arith) (now .inv .2)
           (c .exponent .ensures ∙ sym (poly-at f (now .i) (omega arith))),
     )
 
@@ -61,7 +61,7 @@ exponents-spec =
     loop-holds
     array-copy-out-exponent
     exponent-requires
-    array-write-out
+    array-set-from-out
     add-i
     loop-less
     loop-again

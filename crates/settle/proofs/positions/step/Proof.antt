@@ -8,13 +8,17 @@ use Rattle.settle.proofs.positions.step.Statement.{statement}
 use Rattle.settle.proofs.positions.step.Tie as tie
 
 returns : tie.Need-returns
-returns c = sym (if-pos (symbol (c .before .args .e) ≟ 𝟎) (ap symbol (c .if1 .taken) ∙ symbol-none) _ _)
+returns c =
+    let e = c .before .before .args .e .0 in
+    sym (if-pos (symbol e ≟ 𝟎) (ap symbol (c .if1 .taken) ∙ symbol-none) _ _)
 
-cast-result : tie.Need-cast-result
-cast-result c = search needs
+cast-t4 : tie.Need-cast-t4
+cast-t4 c = search needs
 
 returns-2 : tie.Need-returns-2
-returns-2 c = sym (if-neg (symbol (c .before .args .e) ≟ 𝟎) (λ z. c .if1 .left (symbol-zero _ (search needs) z)) _ _)
+returns-2 c =
+    let e = c .before .before .args .e .0 in
+    sym (if-neg (symbol e ≟ 𝟎) (λ z. c .if1 .left (symbol-zero e (search needs) z)) _ _)
 
 pub step-spec : {M : Type 1} → statement M
-step-spec = tie.close (tie.spec returns cast-result returns-2)
+step-spec = tie.close (tie.spec returns cast-t4 returns-2)

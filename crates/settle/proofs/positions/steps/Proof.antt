@@ -21,14 +21,14 @@ abbrev μ-loop : tie.MeasureT-loop
 loop-holds : tie.Need-loop-holds Inv-loop μ-loop
 loop-holds c = (search needs, search needs, steps-none _)
 
-array-read-step : tie.Need-array-read-step Inv-loop μ-loop
-array-read-step c = search needs
+array-copy-out-step : tie.Need-array-copy-out-step Inv-loop μ-loop
+array-copy-out-step c = search needs
 
 step-requires : tie.Need-step-requires Inv-loop μ-loop
 step-requires c κs = search needs
 
-array-write-out : tie.Need-array-write-out Inv-loop μ-loop
-array-write-out c = search needs
+array-set-from-out : tie.Need-array-set-from-out Inv-loop μ-loop
+array-set-from-out c = search needs
 
 add-i : tie.Need-add-i Inv-loop μ-loop
 add-i c = search needs
@@ -38,8 +38,9 @@ loop-less c = search needs
 
 loop-again : tie.Need-loop-again Inv-loop μ-loop
 loop-again c =
-    let now = c .before .before .loop in
-    let e = c .before .before .before .args .t1 in
+    let at-loop = c .before .before .before in
+    let now = at-loop .loop in
+    let e = at-loop .before .args .t1 in
     let long : length e ≡ 32 = search needs in (
       omega arith,
       length-set (now .out) _ _ ∙ now .inv .1,
@@ -61,9 +62,9 @@ steps-spec =
     Inv-loop
     μ-loop
     loop-holds
-    array-read-step
+    array-copy-out-step
     step-requires
-    array-write-out
+    array-set-from-out
     add-i
     loop-less
     loop-again
