@@ -53,7 +53,7 @@ enum {
     GII_E_STRENGTHS = 4,      /* are the strengths in order: 1 <= t0 < t1 <= .. <= tv <= 24, and 0 after tv? */
     GII_E_LENGTH = 5,         /* is n greater than 2 x tv? */
     GII_E_INPUT_BYTES = 6,    /* has the input the size of the data (gii_encode) or of a block (all others)? */
-    GII_E_OUTPUT_BYTES = 7,   /* has the output the size of a block (gii_encode, gii_decode) or of the data (gii_read)? */
+    GII_E_OUTPUT_BYTES = 7,   /* has the output the size of the data (gii_read) or of a block (all others)? */
     GII_E_UNSETTLED = 8,      /* are all strips settled when decoding ends? gii_decode and gii_read */
     GII_E_NOT_CODEWORD = 9,   /* is the block then a codeword? gii_decode and gii_read */
     GII_E_STRIP = 10          /* is the number of the strip less than m? gii_fetch */

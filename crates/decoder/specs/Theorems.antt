@@ -159,7 +159,8 @@ read-reports f b y o e a g answered =
     λ i h. differences-agree p (bytes y) (x .block) _ (cut-agrees p (x .block)) i h
     ∙ ap (λ s. differences p (bytes y) s i) (sym is) in
     let course = accepted-course p (bytes y) (x .block) (x .report) .0 (x .decoded) in
-    let last : course .last ≡ a .report .last = sym (tells .last ∙ ap (λ (z : staged.Report). z .last) (course .says)) in (
+    let last : course .last ≡ a .report .last =
+    sym (tells .last ∙ ap (λ (z : staged.Report). z .last) (course .says)) in (
       p,
       x .profile,
       subst (λ s. Codeword p s) (sym is) (codeword-cong p (x .block) _ (cut-agrees p (x .block)) (course .code)),

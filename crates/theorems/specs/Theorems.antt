@@ -1,5 +1,5 @@
--- The headlines, one theorem each, about what `encode`, `decode` and `extract` promise. A list is the bytes of a buffer:
--- b a profile, d data, c a block that is written, y one that is received, o what an output held before.
+-- The headlines, one theorem each, about what `encode`, `decode` and `extract` promise. A list is the bytes of a
+-- buffer: b a profile, d data, c a block that is written, y one that is received, o what an output held before.
 --
 --   Bytes l           every entry is a byte
 --   Written p d c     the block c is a codeword of the profile p with the data d, and the only one

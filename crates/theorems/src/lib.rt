@@ -1,5 +1,5 @@
-// What calls of the codec come to together. Each function here makes the calls that a headline is about, and its promise
-// is the headline; no program needs them. specs/Theorems.antt states the same without calls.
+// What calls of the codec come to together. Each function here makes the calls that a headline is about, and its
+// promise is the headline; no program needs them. specs/Theorems.antt states the same without calls.
 ghost use mathlib.Core.Path.{_≡_};
 ghost use lib.ListN.{length};
 ghost use Rattle.theorems.specs.Theorems.{Trip as RoundTrip, Both as EndAlike};
