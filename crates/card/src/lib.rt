@@ -3,6 +3,7 @@
 // specs/PrintedWhole.antt.
 mod block_line;
 mod heading;
+pub mod list;
 pub mod section;
 
 ghost use Prim.Native.Nat.{_<_};
