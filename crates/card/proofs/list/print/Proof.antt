@@ -1,72 +1,84 @@
+-- The list is written section after section, and every section brings the end nearer.
+use mathlib.Core.Path.{_≡_, sym, _∙_}
+use native.Mathlib.Omega.{arith}
+use lib.ListN.{length}
+use lib.Seq.{length-take-le, length-front}
+use Rattle.profile.specs.Laws.{unless, meets}
+use Rattle.card.specs.SectionDefinition.{left}
+use Rattle.card.specs.Definition.{Kept}
+use Rattle.card.specs.ListDefinition.{Reached}
+use Rattle.card.specs.ListLaws.{reached-open, reached-lists}
 use borrow.Author.Needs.{needs}
 use Rattle.card.proofs.list.print.Statement.{statement}
 use Rattle.card.proofs.list.print.Tie as tie
-use Rattle.card.proofs.list.print.Reads as reads
-use Rattle.card.proofs.list.print.Lts as lts
-use Rattle.card.proofs.list.blank_section.Reads as blank-section-reads
-use Rattle.card.proofs.list.blank_table.Reads as blank-table-reads
-use Rattle.card.proofs.list.step.Reads as step-reads
-use Rattle.card.proofs.section.is_over.Reads as is-over-reads
-use Rattle.card.proofs.section.size.Reads as size-reads
-use Rattle.stream.proofs.open.Reads as open-reads
 
 abbrev Inv-loop : tie.InvT-loop
-Inv-loop bytes₀ t₀ u₀ x₀ s₀ bytes t u x s = ?
+Inv-loop bytes₀ t₀ u₀ x₀ s₀ bytes t u x s = (length bytes ≡ 2040) × Reached s x × Kept s t u
 
 abbrev μ-loop : tie.MeasureT-loop
-μ-loop bytes₀ t₀ u₀ x₀ s₀ bytes t u x s = ?
+μ-loop bytes₀ t₀ u₀ x₀ s₀ bytes t u x s = left s
 
--- src/list.rt:72:21
 blank-section-requires : tie.Need-blank-section-requires Inv-loop μ-loop
 blank-section-requires c κs = search needs
 
--- src/list.rt:73:17
 blank-table-requires : tie.Need-blank-table-requires Inv-loop μ-loop
 blank-table-requires c κs = search needs
 
--- src/list.rt:74:17
 blank-table-requires-2 : tie.Need-blank-table-requires-2 Inv-loop μ-loop
 blank-table-requires-2 c κs = search needs
 
--- src/list.rt:75:9
 open-requires : tie.Need-open-requires Inv-loop μ-loop
 open-requires c κs = search needs
 
--- src/list.rt:77:5
 loop-holds : tie.Need-loop-holds Inv-loop μ-loop
-loop-holds c = search needs
+loop-holds c = (search needs, reached-open _ (c .«open» .ensures), tt)
 
--- src/list.rt:77:12
 is-over-requires : tie.Need-is-over-requires Inv-loop μ-loop
 is-over-requires c κs = search needs
 
--- src/list.rt:78:13
 size-requires : tie.Need-size-requires Inv-loop μ-loop
 size-requires c κs = search needs
 
--- src/list.rt:79:44
 array-borrow-prefix-bytes : tie.Need-array-borrow-prefix-bytes Inv-loop μ-loop
-array-borrow-prefix-bytes c = search needs
+array-borrow-prefix-bytes c =
+    let sized = c .before .before in
+    let now = sized .before .before .before .loop in
+    omega (arith, sized .size .ensures .1 (now .inv .1 .good), now .inv .0)
 
--- src/list.rt:79:44
 slice-aggregate-step : tie.Need-slice-aggregate-step Inv-loop μ-loop
-slice-aggregate-step c = search needs
+slice-aggregate-step c =
+    let sized = c .before .before .before in
+    let now = sized .before .before .before .loop in
+    sym (length-take-le _ _ (omega (arith, sized .size .ensures .1 (now .inv .1 .good), now .inv .0)))
 
--- src/list.rt:79:13
 step-requires : tie.Need-step-requires Inv-loop μ-loop
-step-requires c κs = search needs
+step-requires c κs =
+    let sized = c .before .before .before in
+    let tested = sized .before in
+    let now = tested .before .before .loop in
+    let inside = sized .size .ensures .1 (now .inv .1 .good) in (
+      now .inv .1,
+      sym (tested .before .is-over .ensures) ∙ unless _ (tested .if1 .taken),
+      length-take-le _ _ (omega (arith, inside, now .inv .0)) ∙ sized .size .ensures .0,
+      now .inv .2,
+    )
 
--- src/list.rt:77:5
 loop-less : tie.Need-loop-less Inv-loop μ-loop
-loop-less c = search needs
+loop-less c = c .before .before .step .ensures .1 .0
 
--- src/list.rt:77:5
 loop-again : tie.Need-loop-again Inv-loop μ-loop
-loop-again c = search needs
+loop-again c =
+    let at-step = c .before .before in
+    let sized = at-step .before .before .before .before in
+    let step = at-step .step in
+    let now = sized .before .before .before .loop in
+    let same = length-front (now .bytes) (step .last .1 .1 .1 .1 .0) (sized .size .result) (step .kept .1 .1 .1 .1 .0) in
+    (same ∙ now .inv .0, step .ensures .0, step .ensures .1 .1)
 
--- src/list.rt:69:1
 returns : tie.Need-returns Inv-loop μ-loop
-returns c = search needs
+returns c =
+    let now = c .before .before .loop in
+    reached-lists (now .s) _ (now .inv .1) (sym (c .before .is-over .ensures) ∙ meets _ (c .if1 .left))
 
 pub print-spec : {M : Type 1} → statement M
 print-spec =

@@ -1,78 +1,89 @@
+-- A read fails, or the section is judged and its line is written, or not.
+use mathlib.Core.Path.{sym, _∙_}
+use lib.Seq.{length-take-le}
+use Rattle.card.specs.ListLaws.{over-falls, unread-reached, line-reached, unwritten-reached}
 use borrow.Author.Needs.{needs}
 use Rattle.card.proofs.list.step.Statement.{statement}
 use Rattle.card.proofs.list.step.Tie as tie
-use Rattle.card.proofs.list.step.Reads as reads
-use Rattle.card.proofs.list.step.Lts as lts
-use Rattle.card.proofs.judge_kept.Reads as judge-kept-reads
-use Rattle.card.proofs.list.blank_line.Reads as blank-line-reads
-use Rattle.stream.proofs.fill.Reads as fill-reads
-use Rattle.stream.proofs.is_unread.Reads as is-unread-reads
-use Rattle.stream.proofs.is_unwritten.Reads as is-unwritten-reads
-use Rattle.stream.proofs.write_all.Reads as write-all-reads
 
--- src/list.rt:43:9
 fill-requires : tie.Need-fill-requires
 fill-requires c κs = search needs
 
--- src/list.rt:45:8
 is-unread-requires : tie.Need-is-unread-requires
 is-unread-requires c κs = search needs
 
--- src/list.rt:46:9
 same-length : tie.Need-same-length
 same-length c = search needs
 
--- src/list.rt:46:9
 returns : tie.Need-returns
-returns c = search needs
+returns c =
+    let at-fill = c .before .before .before .before .before in
+    let given = at-fill .before .before .before in
+    let read = at-fill .fill in (
+      unread-reached (given .args .s) _ _ _ _ (given .pre .0) (given .pre .1) (read .kept .1 .0 ∙ given .pre .2)
+      (read .ensures .0) (sym (c .before .is-unread .ensures) ∙ c .if1 .taken),
+      (over-falls (given .args .s) (given .pre .1), tt),
+    )
 
--- src/list.rt:52:20
 blank-line-requires : tie.Need-blank-line-requires
 blank-line-requires c κs = search needs
 
--- src/list.rt:53:46
 slice-reshare-prefix-judge-kept : tie.Need-slice-reshare-prefix-judge-kept
 slice-reshare-prefix-judge-kept c = search needs
 
--- src/list.rt:53:46
 slice-aggregate-judge-kept : tie.Need-slice-aggregate-judge-kept
 slice-aggregate-judge-kept c = search needs
 
--- src/list.rt:53:9
 judge-kept-requires : tie.Need-judge-kept-requires
 judge-kept-requires c κs = search needs
 
--- src/list.rt:54:34
 array-share-prefix-line : tie.Need-array-share-prefix-line
-array-share-prefix-line c = search needs
+array-share-prefix-line c = c .judge-kept .ensures .0 .size
 
--- src/list.rt:54:34
 slice-aggregate-write-all : tie.Need-slice-aggregate-write-all
-slice-aggregate-write-all c = search needs
+slice-aggregate-write-all c = sym (length-take-le _ _ (c .before .judge-kept .ensures .0 .size))
 
--- src/list.rt:54:9
 write-all-requires : tie.Need-write-all-requires
 write-all-requires c κs = search needs
 
--- src/list.rt:55:8
 is-unwritten-requires : tie.Need-is-unwritten-requires
 is-unwritten-requires c κs = search needs
 
--- src/list.rt:56:9
 same-length-2 : tie.Need-same-length-2
 same-length-2 c = search needs
 
--- src/list.rt:56:9
 returns-2 : tie.Need-returns-2
-returns-2 c = search needs
+returns-2 c =
+    let judged = c .before .before .before .before in
+    let tested = judged .before .before .before .before .before .before in
+    let at-fill = tested .before .before .before .before .before in
+    let given = at-fill .before .before .before in
+    let read = at-fill .fill in
+    (
+      unwritten-reached (given .args .s) _ _ _ _ (given .pre .0) (given .pre .1) (read .kept .1 .0 ∙ given .pre .2)
+      (read .ensures .0) _ _ _ (read .ensures .1 .0) (judged .judge-kept .ensures .0) _
+      (sym (tested .before .is-unread .ensures) ∙ tested .if1 .left) (c .before .before .write-all .ensures)
+      (sym (c .before .is-unwritten .ensures) ∙ c .if2 .taken),
+      (over-falls (given .args .s) (given .pre .1), tt),
+    )
 
--- src/list.rt:37:1
 same-length-3 : tie.Need-same-length-3
 same-length-3 c = search needs
 
--- src/list.rt:37:1
 returns-3 : tie.Need-returns-3
-returns-3 c = search needs
+returns-3 c =
+    let judged = c .before .before .before .before in
+    let tested = judged .before .before .before .before .before .before in
+    let at-fill = tested .before .before .before .before .before in
+    let given = at-fill .before .before .before in
+    let read = at-fill .fill in
+    (
+      line-reached (given .args .s) _ _ _ _ (given .pre .0) (given .pre .1) (read .kept .1 .0 ∙ given .pre .2)
+      (read .ensures .0) _ _ _ (read .ensures .1 .0) (judged .judge-kept .ensures .0) _
+      (sym (tested .before .is-unread .ensures) ∙ tested .if1 .left) (c .before .before .write-all .ensures)
+      (sym (c .before .is-unwritten .ensures) ∙ c .if2 .left) (judged .judge-kept .ensures .1 .1),
+      (judged .judge-kept .ensures .0 .falls (given .pre .1), judged .judge-kept .ensures .1 .0),
+    )
 
 pub step-spec : {M : Type 1} → statement M
 step-spec =
