@@ -1,6 +1,6 @@
 #!/usr/bin/env bash
-# The benchmark: builds the codec as a static library and runs it and libfec in one program. It needs rt, cc and libfec's
-# header (Debian's libfec-dev), which it installs if it is missing and may be installed here.
+# The benchmark: builds the codec as a static library, and runs it and libfec in one program. It needs rt, cc and
+# libfec's header (Debian's libfec-dev). Where the header is missing, it installs it, or says that it is needed.
 set -eu
 cd "$(dirname "$0")/.."
 for tool in rt cc; do

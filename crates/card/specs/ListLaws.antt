@@ -90,8 +90,8 @@ front w y d m z =
 
 -- the section s comes next where the streams are x, and its bytes are read into the array b: n of them, so that the
 -- streams are y
-module _ (s : Section) (x y : Stream) (b : List ℕ) (n : ℕ) (h : Reached s x) (v : over s ≡ false) (e : length b ≡ size s)
-    (g : Reads (length b) x b n y) where
+module _ (s : Section) (x y : Stream) (b : List ℕ) (n : ℕ) (h : Reached s x) (v : over s ≡ false)
+    (e : length b ≡ size s) (g : Reads (length b) x b n y) where
   open-rest : (d : List ℕ) → Rest x d
   open-rest d f = absurd (true≢false (sym f ∙ h .goes v .0))
 
@@ -124,9 +124,10 @@ module _ (s : Section) (x y : Stream) (b : List ℕ) (n : ℕ) (h : Reached s x)
         → h .text ++ (line ++ rest (t .next) d) ≡ printed ((h .card ++ take n b) ++ d)
     pending f d r =
         let (u, z) = front (wanted s) (take n b) d (omega (arith, want, came))
-            (λ q. r (g .marks .short (omega (arith, want, came)) f)) in
+        (λ q. r (g .marks .short (omega (arith, want, came)) f)) in
         let (_, read, written) = h .goes v in
-        ap (λ (q : List ℕ). h .text ++ q) (sym (j .says (take n b ++ d) u ∙ ap (λ (q : List ℕ). line ++ rest (t .next) q) z))
+        let says = j .says (take n b ++ d) u ∙ ap (λ (q : List ℕ). line ++ rest (t .next) q) z in
+        ap (λ (q : List ℕ). h .text ++ q) (sym says)
         ∙ h .whole read written (take n b ++ d) (open-rest (take n b ++ d))
         ∙ ap printed (sym (append-assoc (h .card) (take n b) d))
 
@@ -177,6 +178,6 @@ module _ (s : Section) (x y : Stream) (b : List ℕ) (n : ℕ) (h : Reached s x)
             → (h .text ++ take i line) ++ (drop i line ++ rest (t .next) d) ≡ printed ((h .card ++ take n b) ++ d)
         says d r = append-assoc (h .text) (take i line) (drop i line ++ rest (t .next) d)
             ∙ ap (λ (q : List ℕ). h .text ++ q)
-              (sym (append-assoc (take i line) (drop i line) (rest (t .next) d))
-              ∙ ap (λ (q : List ℕ). q ++ rest (t .next) d) (take-append-drop i line))
+            (sym (append-assoc (take i line) (drop i line) (rest (t .next) d))
+            ∙ ap (λ (q : List ℕ). q ++ rest (t .next) d) (take-append-drop i line))
             ∙ pending f d (λ q. r (w .ended ∙ q))

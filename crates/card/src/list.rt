@@ -2,39 +2,47 @@
 // written to standard output before the next is read. A card may be of any size, and is never held whole; its profile
 // is judged, and the tables that its blocks are divided by are made, once. What the promises speak of stands in
 // specs/ListDefinition.antt.
-ghost use Prim.Native.Nat.{_<_};
+ghost use Prim.Native.Nat.{_≤_, _<_};
 ghost use mathlib.Core.Path.{_≡_};
 ghost use mathlib.Core.Bool.{true, false};
-ghost use lib.ListN.{length};
+ghost use lib.ListN.{length, take};
+ghost use Rattle.stream.specs.Definition.{Writes};
 ghost use Rattle.card.specs.SectionDefinition.{size as SizeOf, over, left};
 ghost use Rattle.card.specs.Definition.{Kept};
 ghost use Rattle.card.specs.ListDefinition.{Lists, Reached};
 use crate::TABLE;
-use crate::section::SECTION;
 use crate::section::Section;
 use listing::LINE;
 use stream::Stream;
 
 // What comes next, and the streams where it does.
-pub struct Stepped {
-    pub next: Section,
-    pub stream: Stream,
+struct Stepped {
+    next: Section,
+    stream: Stream,
 }
 
-fn blank_section() -> [u8; SECTION] {
-    [0u8; SECTION]
-}
-
+// An array for a line, all zeros.
 fn blank_line() -> [u8; LINE] {
     [0u8; LINE]
 }
 
-fn blank_table() -> [u64; TABLE] {
-    [0u64; TABLE]
+// Writes the first bytes of a line.
+fn put(x: Stream, line: &[u8; LINE], size: usize) -> Stream
+    requires { ⌜ size ≤ length (now line) ⌝ }
+    ensures { λ r. ⌜ Writes x (take size (now (line .entry))) r ⌝ }
+{
+    let text: &[u8] = line;
+    stream::write_all(x, &text[..size])
 }
 
 // Reads the section that comes next, judges it and writes its line. Where a read or a write fails, all is over.
-fn step(s: Section, x: Stream, t: &mut [u64; TABLE], u: &mut [u64; TABLE], bytes: &mut [u8]) -> Stepped
+fn step(
+    s: Section,
+    x: Stream,
+    t: &mut [u64; TABLE],
+    u: &mut [u64; TABLE],
+    bytes: &mut [u8],
+) -> Stepped
     requires { ⌜ Reached s x × (over s ≡ false) × (length (now bytes) ≡ SizeOf s) × Kept s (now t) (now u) ⌝ }
     ensures { λ r. ⌜ Reached (r .next) (r .stream) ⌝ }
     ensures falls { λ r. ⌜ left (r .next) < left s ⌝ }
@@ -51,7 +59,7 @@ fn step(s: Section, x: Stream, t: &mut [u64; TABLE], u: &mut [u64; TABLE], bytes
     let n = got.size;
     let mut line = blank_line();
     let r = crate::judge_kept(s, true, t, u, &bytes[..n], &mut line);
-    let z = stream::write_all(y, &line[..r.size]);
+    let z = put(y, &line, r.size);
     if stream::is_unwritten(z) {
         return Stepped {
             next: Section::Over,
@@ -69,9 +77,9 @@ fn step(s: Section, x: Stream, t: &mut [u64; TABLE], u: &mut [u64; TABLE], bytes
 pub fn print() -> Stream
     ensures { λ r. ⌜ Lists r ⌝ }
 {
-    let mut bytes = blank_section();
-    let mut t = blank_table();
-    let mut u = blank_table();
+    let mut bytes = crate::block_line::blank();
+    let mut t = crate::blank();
+    let mut u = crate::blank();
     let mut x = stream::open();
     let mut s = Section::Size;
     while !crate::section::is_over(s) {

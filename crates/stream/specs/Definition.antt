@@ -2,6 +2,7 @@
 --
 --   Opened r           nothing was read or written, and nothing has ended or failed
 --   Stands s r         r has ended and failed where s has
+--   Still s r          between s and r, nothing was read or written
 --   Took s y r         after s, y was read
 --   Gave s l r         after s, l was written
 --   Marks k s n r      after s, n bytes came where k were wanted at least: if they did not all come, the end of the
@@ -28,6 +29,9 @@ pub record Stands (s r : Stream) : Type 0 where
   pub unread : r .unread ≡ s .unread
   pub unwritten : r .unwritten ≡ s .unwritten
 
+abbrev pub Still : Stream → Stream → Type 0
+Still s r = (c o : List ℕ) → Trace s c o → Trace r c o
+
 pub record Took (s : Stream) (y : List ℕ) (r : Stream) : Type 0 where
   pub stands : Stands s r
   pub trace : (c o : List ℕ) → Trace s c o → Trace r (c ++ y) o
@@ -50,7 +54,7 @@ pub record Lost (s r : Stream) : Type 0 where
   pub ended : r .ended ≡ s .ended
   pub unread : r .unread ≡ s .unread
   pub unwritten : r .unwritten ≡ true
-  pub trace : (c o : List ℕ) → Trace s c o → Trace r c o
+  pub trace : Still s r
 
 pub record Writes (s : Stream) (l : List ℕ) (r : Stream) : Type 0 where
   pub ended : r .ended ≡ s .ended

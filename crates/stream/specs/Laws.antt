@@ -1,7 +1,9 @@
 -- What the calls do to the streams.
 --
 -- Proved: a read of some bytes leaves the streams as they are (after-some), and one of none marks that a read failed
--- (after-failed) or that the input has ended (after-ended).
+-- (after-failed) or that the input has ended (after-ended); a read is marked after its bytes are added (reads-one). An
+-- array is filled read by read (took-none, fill-more), until nothing comes (fill-none) or it is full (fill-all), and a
+-- text is written write by write (gave-none, write-more), until nothing is taken (write-none) or all is (write-whole).
 use Prim.Native.Nat.{ℕ, _+_, _-_, _≤_, _<_}
 use mathlib.Core.Path.{_≡_, refl, sym, ap, _∙_, subst}
 use mathlib.Core.Bool.{true, false, true≢false}
@@ -11,17 +13,13 @@ use lib.ListN.{length, take, drop, length-drop}
 use lib.Seq.{length-take-le, take-all, take-take, take-add, take-at, take-append-le, take-append-add}
 use Rattle.stream.specs.declared.Stream.{Stream}
 use Rattle.stream.specs.Trace.{Trace, trace-same}
-use Rattle.stream.specs.Definition.{Stands, Took, Gave, Marks, Reads, Lost, Writes}
+use Rattle.stream.specs.Definition.{Stands, Still, Took, Gave, Marks, Reads, Lost, Writes}
 
 pub stands-self : (s : Stream) → Stands s s
 stands-self s = record { ended = refl; unread = refl; unwritten = refl }
 
--- what is marked, and that nothing goes through meanwhile
-abbrev pub Marked : Stream → ℕ → Stream → Type 0
-Marked s n r = Marks 1 s n r × ((c o : List ℕ) → Trace s c o → Trace r c o)
-
 module _ (s : Stream) (n : ℕ) where
-  pub after-some : 0 < n → Marked s n s
+  pub after-some : 0 < n → Marks 1 s n s × Still s s
   after-some h = (
     record {
       enough = λ _. stands-self s;
@@ -32,8 +30,8 @@ module _ (s : Stream) (n : ℕ) where
     λ c o t. t,
   )
 
-  pub after-failed : (r : Stream) → r .taken ≡ s .taken → r .given ≡ s .given → r .ended ≡ s .ended → r .unread ≡ true
-      → r .unwritten ≡ s .unwritten → n ≤ 0 → Marked s n r
+  pub after-failed : (r : Stream) → r .taken ≡ s .taken → r .given ≡ s .given → r .ended ≡ s .ended
+      → r .unread ≡ true → r .unwritten ≡ s .unwritten → n ≤ 0 → Marks 1 s n r × Still s r
   after-failed r t g e u w h = (
     record {
       enough = λ l. absurd (omega arith);
@@ -44,8 +42,8 @@ module _ (s : Stream) (n : ℕ) where
     λ c o. trace-same s r c o t g,
   )
 
-  pub after-ended : (r : Stream) → r .taken ≡ s .taken → r .given ≡ s .given → r .ended ≡ true → r .unread ≡ s .unread
-      → r .unwritten ≡ s .unwritten → n ≤ 0 → Marked s n r
+  pub after-ended : (r : Stream) → r .taken ≡ s .taken → r .given ≡ s .given → r .ended ≡ true
+      → r .unread ≡ s .unread → r .unwritten ≡ s .unwritten → n ≤ 0 → Marks 1 s n r × Still s r
   after-ended r t g e u w h = (
     record {
       enough = λ l. absurd (omega arith);
@@ -71,7 +69,8 @@ took-none s = record {
   trace = λ c o w. subst (λ (q : List ℕ). Trace s q o) (sym (append-nil c)) w;
 }
 
-pub reads-one : (s t r : Stream) (y : List ℕ) (n : ℕ) → Took s (take n y) t → Marked t n r → Reads 1 s y n r
+pub reads-one : (s t r : Stream) (y : List ℕ) (n : ℕ) → Took s (take n y) t → Marks 1 t n r × Still t r
+    → Reads 1 s y n r
 reads-one s t r y n h (m, g) = record {
   marks = record {
     enough = λ l. stands-then (h .stands) (m .enough l);
@@ -87,7 +86,8 @@ pub part-length : (b : List ℕ) (at : ℕ) → length (take (length b - at) (dr
 part-length b at = length-take-le (length b - at) (drop at b) (omega (arith, length-drop at b))
 
 -- as many bytes are there as in the array b
-pub counted : (b d : List ℕ) (at : ℕ) → length d ≡ length b → at ≤ length b → (at ≤ length d) × (at ≡ length (take at d))
+pub counted : (b d : List ℕ) (at : ℕ) → length d ≡ length b → at ≤ length b
+    → (at ≤ length d) × (at ≡ length (take at d))
 counted b d at e l =
     let m : at ≤ length d = omega arith in
     (m, sym (length-take-le at d m))
@@ -149,8 +149,8 @@ gave-none s = record {
 }
 
 -- after the bytes before `at`, of a text l, a write takes n more of the k that are left
-module _ (s x r : Stream) (l : List ℕ) (at n k : ℕ) (h : Gave s (take at l) x) (g : Gave x (take n (take k (drop at l))) r)
-    where
+module _ (s x r : Stream) (l : List ℕ) (at n k : ℕ) (h : Gave s (take at l) x)
+    (g : Gave x (take n (take k (drop at l))) r) where
   pub write-more : n ≤ k → Gave s (take (at + n) l) r
   write-more m = record {
     stands = stands-then (h .stands) (g .stands);

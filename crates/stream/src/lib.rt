@@ -6,14 +6,12 @@
 // A call that is interrupted, or that would have to wait, is made again. A `Stream` tells whether a call failed for
 // another reason; errno then says which, until the next call. Whoever has a `Stream` goes on with what he is handed
 // back, and not with the one that he had.
-ghost use Prim.Native.Nat.{ℕ, _<_, _≤_};
+ghost use Prim.Native.Nat.{_<_, _≤_};
 ghost use mathlib.Core.Path.{_≡_};
 ghost use mathlib.Core.Bool.{true};
-ghost use mathlib.Core.List.{List};
 ghost use lib.ListN.{length, take};
 ghost use Rattle.io.specs.Counts.{Counts};
-ghost use Rattle.stream.specs.Trace.{Trace};
-ghost use Rattle.stream.specs.Definition.{Opened, Took, Gave, Marks, Reads, Lost, Writes};
+ghost use Rattle.stream.specs.Definition.{Opened, Still, Took, Gave, Marks, Reads, Lost, Writes};
 
 // How often a call is made again: a number that no run uses up.
 const TRIES: u64 = 18446744073709551615;
@@ -141,7 +139,7 @@ fn call_write(buf: &[u8]) -> isize {
 
 // The streams after a read of `size` bytes, where one was wanted at least.
 fn after(s: Stream, size: usize, failed: bool) -> Stream
-    ensures { λ r. ⌜ Marks 1 s size r × ((c o : List ℕ) → Trace s c o → Trace r c o) ⌝ }
+    ensures { λ r. ⌜ Marks 1 s size r × Still s r ⌝ }
 {
     if 0 < size {
         return s;
@@ -238,13 +236,13 @@ pub fn write_all(s: Stream, buf: &[u8]) -> Stream
     let mut at: usize = 0;
     while at < buf.len() {
         let r = write(x, &buf[at..]);
-        let size = r.size;
+        let n = r.size;
         let y = r.stream;
         x = y;
-        if size == 0 {
+        if n == 0 {
             return lost(x);
         }
-        at = at + size;
+        at = at + n;
     }
     x
 }

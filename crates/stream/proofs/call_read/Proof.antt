@@ -1,13 +1,10 @@
-use native.Mathlib.Omega.{arith}
+-- The tries are counted down.
 use mathlib.Core.Path.{_≡_}
+use native.Mathlib.Omega.{arith}
 use lib.ListN.{length}
 use borrow.Author.Needs.{needs}
 use Rattle.stream.proofs.call_read.Statement.{statement}
 use Rattle.stream.proofs.call_read.Tie as tie
-use Rattle.stream.proofs.call_read.Reads as reads
-use Rattle.stream.proofs.call_read.Lts as lts
-use Rattle.libc.proofs.read.Reads as read-reads
-use Rattle.stream.proofs.again.Reads as again-reads
 
 abbrev Inv-loop : tie.InvT-loop
 Inv-loop buf₀ tries₀ moved₀ buf tries moved = length buf ≡ length buf₀
@@ -15,41 +12,32 @@ Inv-loop buf₀ tries₀ moved₀ buf tries moved = length buf ≡ length buf₀
 abbrev μ-loop : tie.MeasureT-loop
 μ-loop buf₀ tries₀ moved₀ buf tries moved = tries
 
--- src/lib.rt:126:9
 read-requires : tie.Need-read-requires Inv-loop μ-loop
 read-requires c κs = search needs
 
--- src/lib.rt:127:5
 loop-holds : tie.Need-loop-holds Inv-loop μ-loop
 loop-holds c = search needs
 
--- src/lib.rt:127:11
 again-requires : tie.Need-again-requires Inv-loop μ-loop
 again-requires c κs = search needs
 
--- src/lib.rt:128:17
 sub-tries : tie.Need-sub-tries Inv-loop μ-loop
 sub-tries c = omega (arith, c .before .again .ensures (c .if1 .taken))
 
--- src/lib.rt:129:9
 read-requires-2 : tie.Need-read-requires-2 Inv-loop μ-loop
 read-requires-2 c κs = search needs
 
--- src/lib.rt:127:5
 loop-less : tie.Need-loop-less Inv-loop μ-loop
 loop-less c =
     let tested = c .before .before .before .before in
     omega (arith, tested .before .again .ensures (tested .if1 .taken))
 
--- src/lib.rt:127:5
 loop-again : tie.Need-loop-again Inv-loop μ-loop
 loop-again c = search needs
 
--- src/lib.rt:122:1
 same-length : tie.Need-same-length Inv-loop μ-loop
 same-length c = search needs
 
--- src/lib.rt:122:1
 returns : tie.Need-returns Inv-loop μ-loop
 returns c = search needs
 

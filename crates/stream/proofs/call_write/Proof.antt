@@ -1,11 +1,8 @@
+-- The tries are counted down.
 use native.Mathlib.Omega.{arith}
 use borrow.Author.Needs.{needs}
 use Rattle.stream.proofs.call_write.Statement.{statement}
 use Rattle.stream.proofs.call_write.Tie as tie
-use Rattle.stream.proofs.call_write.Reads as reads
-use Rattle.stream.proofs.call_write.Lts as lts
-use Rattle.libc.proofs.write.Reads as write-reads
-use Rattle.stream.proofs.again.Reads as again-reads
 
 abbrev Inv-loop : tie.InvT-loop
 Inv-loop buf tries₀ moved₀ tries moved = Unit {0}
@@ -13,37 +10,29 @@ Inv-loop buf tries₀ moved₀ tries moved = Unit {0}
 abbrev μ-loop : tie.MeasureT-loop
 μ-loop buf tries₀ moved₀ tries moved = tries
 
--- src/lib.rt:139:9
 write-requires : tie.Need-write-requires Inv-loop μ-loop
 write-requires c κs = search needs
 
--- src/lib.rt:140:5
 loop-holds : tie.Need-loop-holds Inv-loop μ-loop
 loop-holds c = search needs
 
--- src/lib.rt:140:11
 again-requires : tie.Need-again-requires Inv-loop μ-loop
 again-requires c κs = search needs
 
--- src/lib.rt:141:17
 sub-tries : tie.Need-sub-tries Inv-loop μ-loop
 sub-tries c = omega (arith, c .before .again .ensures (c .if1 .taken))
 
--- src/lib.rt:142:9
 write-requires-2 : tie.Need-write-requires-2 Inv-loop μ-loop
 write-requires-2 c κs = search needs
 
--- src/lib.rt:140:5
 loop-less : tie.Need-loop-less Inv-loop μ-loop
 loop-less c =
     let tested = c .before in
     omega (arith, tested .before .again .ensures (tested .if1 .taken))
 
--- src/lib.rt:140:5
 loop-again : tie.Need-loop-again Inv-loop μ-loop
 loop-again c = search needs
 
--- src/lib.rt:135:1
 returns : tie.Need-returns Inv-loop μ-loop
 returns c = search needs
 

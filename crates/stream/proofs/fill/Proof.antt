@@ -43,10 +43,9 @@ returns c =
     let at-read = c .before .before .before .before in
     let now = at-read .before .before .before .loop in
     let y = at-read .read .last .1 .0 in
-    let same = same-len-mid (now .at) (length (now .buf) - now .at) (now .buf) y (at-read .read .kept .1 .0) in
-    (
+    let same = same-len-mid (now .at) (length (now .buf) - now .at) (now .buf) y (at-read .read .kept .1 .0) in (
       fill-none _ _ _ (now .buf) y _ (now .at) _ (now .inv .2) (now .inv .0) (at-read .read .ensures .0) (omega arith) _
-      (omega (arith, same)),
+          (omega (arith, same)),
       counted (now .buf) _ (now .at) same (now .inv .0),
     )
 
@@ -76,7 +75,7 @@ loop-again c =
       omega (arith, same, size, at-read .read .ensures .1),
       same ∙ now .inv .1,
       fill-more _ _ _ (now .buf) y _ (now .at) _ (now .inv .2) (now .inv .0) (at-read .read .ensures .0) (omega arith)
-      (at-read .read .ensures .1),
+          (at-read .read .ensures .1),
     )
 
 same-length-2 : tie.Need-same-length-2 Inv-loop μ-loop

@@ -59,7 +59,7 @@ loop-again c =
     let part = part-length buf (now .loop .at) in (
       omega (arith, part, at-write .write .ensures .1),
       write-more _ _ _ buf (now .loop .at) (at-write .write .result .size) (length buf - now .loop .at)
-      (now .loop .inv .1) (at-write .write .ensures .0) (omega (arith, part, at-write .write .ensures .1)),
+          (now .loop .inv .1) (at-write .write .ensures .0) (omega (arith, part, at-write .write .ensures .1)),
     )
 
 returns-2 : tie.Need-returns-2 Inv-loop μ-loop

@@ -18,14 +18,14 @@ Inv-loop bytes₀ t₀ u₀ x₀ s₀ bytes t u x s = (length bytes ≡ 2040) ×
 abbrev μ-loop : tie.MeasureT-loop
 μ-loop bytes₀ t₀ u₀ x₀ s₀ bytes t u x s = left s
 
-blank-section-requires : tie.Need-blank-section-requires Inv-loop μ-loop
-blank-section-requires c κs = search needs
+blank-requires : tie.Need-blank-requires Inv-loop μ-loop
+blank-requires c κs = search needs
 
-blank-table-requires : tie.Need-blank-table-requires Inv-loop μ-loop
-blank-table-requires c κs = search needs
+blank-requires-2 : tie.Need-blank-requires-2 Inv-loop μ-loop
+blank-requires-2 c κs = search needs
 
-blank-table-requires-2 : tie.Need-blank-table-requires-2 Inv-loop μ-loop
-blank-table-requires-2 c κs = search needs
+blank-requires-3 : tie.Need-blank-requires-3 Inv-loop μ-loop
+blank-requires-3 c κs = search needs
 
 open-requires : tie.Need-open-requires Inv-loop μ-loop
 open-requires c κs = search needs
@@ -72,7 +72,8 @@ loop-again c =
     let sized = at-step .before .before .before .before in
     let step = at-step .step in
     let now = sized .before .before .before .loop in
-    let same = length-front (now .bytes) (step .last .1 .1 .1 .1 .0) (sized .size .result) (step .kept .1 .1 .1 .1 .0) in
+    let read = step .last .1 .1 .1 .1 .0 in
+    let same = length-front (now .bytes) read (sized .size .result) (step .kept .1 .1 .1 .1 .0) in
     (same ∙ now .inv .0, step .ensures .0, step .ensures .1 .1)
 
 returns : tie.Need-returns Inv-loop μ-loop
@@ -86,9 +87,9 @@ print-spec =
     (tie.spec
     Inv-loop
     μ-loop
-    blank-section-requires
-    blank-table-requires
-    blank-table-requires-2
+    blank-requires
+    blank-requires-2
+    blank-requires-3
     open-requires
     loop-holds
     is-over-requires

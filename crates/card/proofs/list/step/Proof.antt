@@ -1,6 +1,5 @@
 -- A read fails, or the section is judged and its line is written, or not.
 use mathlib.Core.Path.{sym, _∙_}
-use lib.Seq.{length-take-le}
 use Rattle.card.specs.ListLaws.{over-falls, unread-reached, line-reached, unwritten-reached}
 use borrow.Author.Needs.{needs}
 use Rattle.card.proofs.list.step.Statement.{statement}
@@ -21,7 +20,7 @@ returns c =
     let given = at-fill .before .before .before in
     let read = at-fill .fill in (
       unread-reached (given .args .s) _ _ _ _ (given .pre .0) (given .pre .1) (read .kept .1 .0 ∙ given .pre .2)
-      (read .ensures .0) (sym (c .before .is-unread .ensures) ∙ c .if1 .taken),
+          (read .ensures .0) (sym (c .before .is-unread .ensures) ∙ c .if1 .taken),
       (over-falls (given .args .s) (given .pre .1), tt),
     )
 
@@ -37,14 +36,8 @@ slice-aggregate-judge-kept c = search needs
 judge-kept-requires : tie.Need-judge-kept-requires
 judge-kept-requires c κs = search needs
 
-array-share-prefix-line : tie.Need-array-share-prefix-line
-array-share-prefix-line c = c .judge-kept .ensures .0 .size
-
-slice-aggregate-write-all : tie.Need-slice-aggregate-write-all
-slice-aggregate-write-all c = sym (length-take-le _ _ (c .before .judge-kept .ensures .0 .size))
-
-write-all-requires : tie.Need-write-all-requires
-write-all-requires c κs = search needs
+put-requires : tie.Need-put-requires
+put-requires c κs = c .before .judge-kept .ensures .0 .size
 
 is-unwritten-requires : tie.Need-is-unwritten-requires
 is-unwritten-requires c κs = search needs
@@ -58,12 +51,11 @@ returns-2 c =
     let tested = judged .before .before .before .before .before .before in
     let at-fill = tested .before .before .before .before .before in
     let given = at-fill .before .before .before in
-    let read = at-fill .fill in
-    (
+    let read = at-fill .fill in (
       unwritten-reached (given .args .s) _ _ _ _ (given .pre .0) (given .pre .1) (read .kept .1 .0 ∙ given .pre .2)
-      (read .ensures .0) _ _ _ (read .ensures .1 .0) (judged .judge-kept .ensures .0) _
-      (sym (tested .before .is-unread .ensures) ∙ tested .if1 .left) (c .before .before .write-all .ensures)
-      (sym (c .before .is-unwritten .ensures) ∙ c .if2 .taken),
+          (read .ensures .0) _ _ _ (read .ensures .1 .0) (judged .judge-kept .ensures .0) _
+          (sym (tested .before .is-unread .ensures) ∙ tested .if1 .left) (c .before .before .put .ensures)
+          (sym (c .before .is-unwritten .ensures) ∙ c .if2 .taken),
       (over-falls (given .args .s) (given .pre .1), tt),
     )
 
@@ -76,12 +68,11 @@ returns-3 c =
     let tested = judged .before .before .before .before .before .before in
     let at-fill = tested .before .before .before .before .before in
     let given = at-fill .before .before .before in
-    let read = at-fill .fill in
-    (
+    let read = at-fill .fill in (
       line-reached (given .args .s) _ _ _ _ (given .pre .0) (given .pre .1) (read .kept .1 .0 ∙ given .pre .2)
-      (read .ensures .0) _ _ _ (read .ensures .1 .0) (judged .judge-kept .ensures .0) _
-      (sym (tested .before .is-unread .ensures) ∙ tested .if1 .left) (c .before .before .write-all .ensures)
-      (sym (c .before .is-unwritten .ensures) ∙ c .if2 .left) (judged .judge-kept .ensures .1 .1),
+          (read .ensures .0) _ _ _ (read .ensures .1 .0) (judged .judge-kept .ensures .0) _
+          (sym (tested .before .is-unread .ensures) ∙ tested .if1 .left) (c .before .before .put .ensures)
+          (sym (c .before .is-unwritten .ensures) ∙ c .if2 .left) (judged .judge-kept .ensures .1 .1),
       (judged .judge-kept .ensures .0 .falls (given .pre .1), judged .judge-kept .ensures .1 .0),
     )
 
@@ -97,9 +88,7 @@ step-spec =
     slice-reshare-prefix-judge-kept
     slice-aggregate-judge-kept
     judge-kept-requires
-    array-share-prefix-line
-    slice-aggregate-write-all
-    write-all-requires
+    put-requires
     is-unwritten-requires
     same-length-2
     returns-2
