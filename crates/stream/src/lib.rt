@@ -4,8 +4,8 @@
 // promised of what was read and written is proved from it (specs/Trace.antt).
 //
 // A call that is interrupted, or that would have to wait, is made again. A `Stream` tells whether a call failed for
-// another reason; errno then says which, until the next call. Whoever has a `Stream` goes on with what he is handed
-// back, and not with the one that he had.
+// another reason; errno then says which, until the next call. A `Stream` that was handed to a function is used no more:
+// the streams go on as the one that comes back.
 ghost use Prim.Native.Nat.{_<_, _≤_};
 ghost use mathlib.Core.Path.{_≡_};
 ghost use mathlib.Core.Bool.{true};

@@ -64,7 +64,7 @@ step-requires c κs =
     )
 
 loop-less : tie.Need-loop-less Inv-loop μ-loop
-loop-less c = c .before .before .step .ensures .1 .0
+loop-less c = omega (arith, c .before .before .step .ensures .1 .0)
 
 loop-again : tie.Need-loop-again Inv-loop μ-loop
 loop-again c =

@@ -1,5 +1,6 @@
 -- A read fails, or the section is judged and its line is written, or not.
 use mathlib.Core.Path.{sym, _∙_}
+use native.Mathlib.Omega.{arith}
 use Rattle.card.specs.ListLaws.{over-falls, unread-reached, line-reached, unwritten-reached}
 use borrow.Author.Needs.{needs}
 use Rattle.card.proofs.list.step.Statement.{statement}
@@ -37,7 +38,7 @@ judge-kept-requires : tie.Need-judge-kept-requires
 judge-kept-requires c κs = search needs
 
 put-requires : tie.Need-put-requires
-put-requires c κs = c .before .judge-kept .ensures .0 .size
+put-requires c κs = omega (arith, c .before .judge-kept .ensures .0 .size)
 
 is-unwritten-requires : tie.Need-is-unwritten-requires
 is-unwritten-requires c κs = search needs
