@@ -10,7 +10,7 @@ done
 has_libfec() { echo '#include <fec.h>' | cc -E - > /dev/null 2>&1; }
 
 needs_libfec() {
-    echo "bench/run.sh: libfec's header fec.h is missing, and $1: install libfec-dev (apt-get install libfec-dev)" >&2
+    echo "bench/run.sh: libfec's header fec.h is missing, and $1; Debian has it in libfec-dev" >&2
     exit 2
 }
 
