@@ -1,6 +1,7 @@
 // Prints the lists of cards, after a line `card of SIZE` for each. `stdout` holds the same lists from an independent
-// model: stored cards, and the sample card (FORMAT 10.11) cut at every byte and followed by one byte too many.
-// tools/make_vectors makes both files.
+// model: stored cards, the sample card (FORMAT 10.11) cut at every byte and followed by one byte too many, and a card
+// of hundreds of blocks, whole, cut in its last block and followed by one byte too many. tools/make_vectors makes both
+// files.
 //
 // Standard input is the number of cards and the cards, each after its size. These numbers have two bytes, the high
 // byte first.
