@@ -40,8 +40,8 @@ fn odd_part(f: [Gf; COEFFICIENTS], k: usize) -> [u8; TERMS]
     out
 }
 
-// Forney's formula at position p: one row of products serves both values. With many changes every root comes here, so
-// its two products read no table.
+// Forney's formula at position p: one row of products serves both values. Every root comes here, so the two products
+// read no table.
 fn forney(p: usize, denominator: &[u8], numerator: &[u8]) -> Gf
     requires { ⌜ p ≤ 255 ⌝ }
     ensures { λ r. ⌜ val r ≡
@@ -122,7 +122,7 @@ fn locate_one(locator: [Gf; COEFFICIENTS], numerator: &[u8], n: usize) -> Locate
         };
     }
     let top = short_value(Exponent(255 - p).power(), numerator);
-    pattern[p] = top.product(b.inverse());
+    pattern[p] = kernel::product(top, b.inverse());
     Located {
         whole: true,
         pattern: pattern,

@@ -86,7 +86,7 @@ fn step(e: Lane, i: usize) -> Loss
 }
 
 // What each of k terms loses from a position to the next, and nothing after them. A loop over all 32 would be unrolled,
-// and what it makes put together from pieces again in every pass of `values`.
+// and what it makes put together from pieces again in every pass of `at_positions`.
 fn steps(e: [Lane; LANES], k: usize) -> [Loss; LANES]
     requires { ⌜ (k ≤ 32) × below k (symbols e) ⌝ }
     ensures { λ r. ⌜ Steps (symbols e) r ⌝ }
