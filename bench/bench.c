@@ -15,9 +15,10 @@
 
 enum { STRIPS = 8, N = 255, T0 = 14, T1 = 16, CHECKS = 2 * T0, BLOCK = STRIPS * N, BLOCKS = 16 };
 
-static const uint8_t profile[7] = { STRIPS, 3, N, T0, T1, 18, 24 };
+static const uint8_t profile[GII_PROFILE_BYTES] = { STRIPS, 3, N, T0, T1, 18, 24 };
 
-static uint8_t data[BLOCKS][BLOCK], written[BLOCKS][BLOCK], received[BLOCKS][BLOCK], out[BLOCK], report[GII_REPORT];
+static uint8_t data[BLOCKS][BLOCK], written[BLOCKS][BLOCK], received[BLOCKS][BLOCK];
+static uint8_t out[BLOCK], report[GII_REPORT_BYTES];
 static uint8_t strips[BLOCKS][STRIPS][N], damaged[BLOCKS][STRIPS][N], work[N];
 static void *rs;
 static size_t data_size;

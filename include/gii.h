@@ -3,16 +3,18 @@
  *
  * docs/FORMAT.md defines blocks and answers; its clauses are cited here. The functions are those of the crate `gii`,
  * which is proved to keep the promises below for every input: crates/gii/src/lib.rt states them,
- * crates/gii/specs/Definition.antt says what they mean. Link the static library that `rt staticlib gii` writes,
- * target/staticlib/libgii.a (x86-64 Linux; it asks for memcpy and memset and nothing else).
+ * crates/gii/specs/Definition.antt says what they mean. The inline functions at the end are no part of that: they
+ * only take apart what was returned. Link the static library that `rt staticlib gii` writes,
+ * target/staticlib/libgii.a, for x86-64 Linux: @CODE@ KiB of code and constants, which ask for memcpy and memset and
+ * nothing else.
  *
  * Buffers. Each one is a pointer and the number of its bytes. Any number is allowed: a wrong one is refused by number
  * and does no harm. The pointer must be to that many bytes that may be read (and written, where it is not const); a
  * buffer of 0 bytes is not touched, and its pointer may be NULL. A buffer that is written must not share bytes with
- * another buffer of the same call; those that are only read may.
+ * another buffer of the same call; those that are only read may. A call that refuses changes no byte of any buffer.
  *
  * Nothing is kept between calls and nothing is allocated, so that threads may call at the same time. A call needs less
- * than 64 KiB of stack.
+ * than @STACK@ KiB of stack.
  *
  * The seven bytes of a profile are m (how many strips), v (how many nested sums), n (bytes of a strip) and t0, t1, t2,
  * t3 (strengths). A block has m x n bytes, its strips one after the other; each strip begins with its check bytes, and
@@ -28,27 +30,38 @@
 extern "C" {
 #endif
 
-/*
- * What gii_encode, gii_decode and gii_fetch return. The questions are asked in this order, and the first that is
- * answered by no gives its number (FORMAT 4); all output buffers but a report then keep their bytes.
- */
+/* The version of this interface. Within it names, numbers and sizes are only ever added, and a report only grows. */
+#define GII_VERSION 1
+
+/* The bytes of a profile and of a report, and the most bytes of a block and of its data. */
 enum {
-    GII_OK = 0,            /* every question was answered by yes */
-    GII_PROFILE_SIZE = 1,  /* has the profile seven bytes? */
-    GII_STRIPS = 2,        /* is m at least 1 and at most 8? */
-    GII_NESTED = 3,        /* is v at most 3, and less than m? */
-    GII_STRENGTHS = 4,     /* are the strengths in order: 1 <= t0 < t1 <= .. <= tv <= 24, and 0 after tv? */
-    GII_LENGTH = 5,        /* is n greater than 2 x tv? */
-    GII_INPUT_SIZE = 6,    /* has the input the size of the data (gii_encode) or of a block (gii_decode, gii_fetch)? */
-    GII_OUTPUT_SIZE = 7,   /* has the output the size of a block? gii_encode and gii_decode */
-    GII_UNSETTLED = 8,     /* are all strips settled when decoding ends? gii_decode; the report has the stage */
-    GII_NOT_CODEWORD = 9,  /* is the block then a codeword? gii_decode */
-    GII_STRIP_NUMBER = 10  /* is the number of the strip less than m? gii_fetch */
+    GII_PROFILE_BYTES = 7,
+    GII_REPORT_BYTES = 27,
+    GII_BLOCK_MAX = 2040,
+    GII_DATA_MAX = 2024
 };
 
 /*
- * The data bytes of a block (at most 2024) and all its bytes (at most 2040). 0 exactly if the profile is refused: an
- * accepted one never has 0.
+ * The numbers of answers. The questions are asked in this order, and the first that is answered by no gives its number
+ * (FORMAT 4).
+ */
+enum {
+    GII_OK = 0,               /* every question was answered by yes */
+    GII_E_PROFILE_BYTES = 1,  /* has the profile seven bytes? */
+    GII_E_STRIPS = 2,         /* is m at least 1 and at most 8? */
+    GII_E_NESTED = 3,         /* is v at most 3, and less than m? */
+    GII_E_STRENGTHS = 4,      /* are the strengths in order: 1 <= t0 < t1 <= .. <= tv <= 24, and 0 after tv? */
+    GII_E_LENGTH = 5,         /* is n greater than 2 x tv? */
+    GII_E_INPUT_BYTES = 6,    /* has the input the size of the data (gii_encode) or of a block (all others)? */
+    GII_E_OUTPUT_BYTES = 7,   /* has the output the size of the data (gii_read) or of a block (all others)? */
+    GII_E_UNSETTLED = 8,      /* are all strips settled when decoding ends? gii_decode and gii_read */
+    GII_E_NOT_CODEWORD = 9,   /* is the block then a codeword? gii_decode and gii_read */
+    GII_E_STRIP = 10          /* is the number of the strip less than m? gii_fetch */
+};
+
+/*
+ * The data bytes of a block (at most GII_DATA_MAX) and all its bytes (at most GII_BLOCK_MAX). 0 exactly if the profile
+ * is refused: an accepted one never has 0.
  */
 size_t gii_data_size(const uint8_t *profile, size_t profile_size);
 size_t gii_block_size(const uint8_t *profile, size_t profile_size);
@@ -61,33 +74,31 @@ uint8_t gii_encode(const uint8_t *profile, size_t profile_size, const uint8_t *d
                    uint8_t *out, size_t out_size);
 
 /*
- * The solver that reads: three forms of one algorithm. Any other number is GII_PLAIN. All three give the same number,
- * the same bytes and the same report, always.
+ * Reads a block, which may have changed since it was written, and writes its data, in the order in which they were
+ * written. What is accepted is always the data of a codeword. block_size must be gii_block_size and data_size
+ * gii_data_size. Returns a result: its number is 0, or 1 to 9 (gii_number), and with 8 it says the stage after which
+ * reading ended (gii_stage).
+ */
+uint16_t gii_read(const uint8_t *profile, size_t profile_size, const uint8_t *block, size_t block_size,
+                  uint8_t *data, size_t data_size);
+
+/*
+ * The solver that gii_decode reads with: three forms of one algorithm, and any other number is GII_PLAIN. Results,
+ * bytes and reports are the same with each of them, always. Nothing else of the solver can be seen from C, so that no
+ * promise binds which form was taken; they differ in speed.
  */
 enum { GII_PLAIN = 0, GII_LOOKAHEAD = 1, GII_SCALED = 2 };
 
 /*
- * A report is GII_REPORT bytes (FORMAT 7.8):
+ * Reads the block input as gii_read does, and writes it mended to out, with a report. input_size and out_size must be
+ * gii_block_size. Returns a result as gii_read does.
  *
- *     0       with 8, the stage after which reading ended; 0 with any other number
- *     1       the last stage entered
- *     2, 3    how many bytes of the block were changed, high byte first: 256 x report[2] + report[3]
- *     4 ..    for each of eight strips three bytes, strip i from 4 + 3 x i on: 0 0 0 if it is clean, else 1, how many
- *             of its bytes were changed, and the stage that settled it. Strips that the profile does not have are
- *             clean.
- *
- * A refused reading reports zeros, but for byte 0 with 8. A report buffer may have any size: a shorter one gets the
- * first bytes of the report, the bytes of a longer one past the report keep their value.
+ * An accepted reading writes the report as GII_REPORT_BYTES bytes (FORMAT 7.8), which gii_report_of takes apart. A
+ * report buffer may have any size: a shorter one gets the first bytes of the report, and the bytes of a longer one past
+ * the report keep their value. Later versions only append bytes.
  */
-enum { GII_REPORT = 28 };
-
-/*
- * Reads the block input, which may have changed since it was written, and writes it mended to out; what is accepted is
- * always a codeword. input_size and out_size must be gii_block_size. Returns 0, or 1 to 9. The report is written
- * whatever is returned.
- */
-uint8_t gii_decode(const uint8_t *profile, size_t profile_size, const uint8_t *input, size_t input_size,
-                   uint8_t *out, size_t out_size, uint8_t form, uint8_t *report, size_t report_size);
+uint16_t gii_decode(const uint8_t *profile, size_t profile_size, const uint8_t *input, size_t input_size,
+                    uint8_t *out, size_t out_size, uint8_t form, uint8_t *report, size_t report_size);
 
 /*
  * The data of strip i, where they stand in the caller's block: gii_fetch_size bytes from block + gii_fetch_start on
@@ -97,6 +108,57 @@ uint8_t gii_decode(const uint8_t *profile, size_t profile_size, const uint8_t *i
 uint8_t gii_fetch(const uint8_t *profile, size_t profile_size, const uint8_t *block, size_t block_size, size_t i);
 size_t gii_fetch_start(const uint8_t *profile, size_t profile_size, const uint8_t *block, size_t block_size, size_t i);
 size_t gii_fetch_size(const uint8_t *profile, size_t profile_size, const uint8_t *block, size_t block_size, size_t i);
+
+/* ---- what was returned, taken apart */
+
+/* The number of a result. */
+static inline uint8_t gii_number(uint16_t result) { return (uint8_t)(result & 255); }
+
+/* The stage of a result with number 8, 0 with any other. */
+static inline uint8_t gii_stage(uint16_t result) { return (uint8_t)(result >> 8); }
+
+/* What a number says, in English. */
+static inline const char *gii_message(uint8_t number) {
+    switch (number) {
+    case GII_OK: return "accepted";
+    case GII_E_PROFILE_BYTES: return "the profile has not seven bytes";
+    case GII_E_STRIPS: return "the number of strips is not from 1 to 8";
+    case GII_E_NESTED: return "the number of nested sums is above 3, or not below the number of strips";
+    case GII_E_STRENGTHS: return "the strengths are not in order";
+    case GII_E_LENGTH: return "a strip has too few bytes for its strength";
+    case GII_E_INPUT_BYTES: return "the input has the wrong size";
+    case GII_E_OUTPUT_BYTES: return "the output has the wrong size";
+    case GII_E_UNSETTLED: return "too many strips have too many changes";
+    case GII_E_NOT_CODEWORD: return "the mended block is no codeword";
+    case GII_E_STRIP: return "there is no such strip";
+    default: return "no number of this interface";
+    }
+}
+
+/* The report of a reading. A strip that is not mended is clean; so are the strips that the profile does not have. */
+struct gii_report {
+    uint8_t last_stage; /* the last stage entered */
+    uint16_t changed;   /* how many bytes of the block were changed */
+    struct {
+        uint8_t mended;  /* 0 or 1 */
+        uint8_t changed; /* how many of its bytes were changed */
+        uint8_t stage;   /* the stage that settled it */
+    } strip[8];
+};
+
+/* The report of these GII_REPORT_BYTES bytes. */
+static inline struct gii_report gii_report_of(const uint8_t *bytes) {
+    struct gii_report report;
+    int i;
+    report.last_stage = bytes[0];
+    report.changed = (uint16_t)(256 * bytes[1] + bytes[2]);
+    for (i = 0; i < 8; i++) {
+        report.strip[i].mended = bytes[3 + 3 * i];
+        report.strip[i].changed = bytes[4 + 3 * i];
+        report.strip[i].stage = bytes[5 + 3 * i];
+    }
+    return report;
+}
 
 #ifdef __cplusplus
 }

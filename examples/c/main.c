@@ -1,12 +1,12 @@
-/* Writes a block, damages it, reads it back and fetches a strip. ../rust/main.rs is the same program; ../expected is
- * what both print. */
+/* Writes a block, damages it, reads it and its data back and fetches a strip. ../rust/main.rs is the same program;
+ * ../expected is what both print. */
 #include <stdio.h>
 #include <stdlib.h>
 #include <string.h>
 
 #include "gii.h"
 
-static const uint8_t profile[7] = {8, 3, 255, 14, 16, 18, 24};
+static const uint8_t profile[GII_PROFILE_BYTES] = {8, 3, 255, 14, 16, 18, 24};
 
 /* Changes the first `count` bytes of strip i. */
 static void damage(uint8_t *block, size_t i, size_t count) {
@@ -16,17 +16,20 @@ static void damage(uint8_t *block, size_t i, size_t count) {
 
 /* Reads a damaged block, and says whether it is the one that was written. */
 static void read_back(const uint8_t *damaged, const uint8_t *written, size_t size, uint8_t form) {
-    uint8_t report[GII_REPORT];
+    uint8_t bytes[GII_REPORT_BYTES] = {0}, kept[GII_REPORT_BYTES] = {0};
     uint8_t *out = calloc(size, 1);
-    uint8_t number = gii_decode(profile, sizeof profile, damaged, size, out, size, form, report, sizeof report);
-    if (number == GII_OK) {
-        printf("read %d: last stage %d, %d bytes changed, %s\n", number, report[1], 256 * report[2] + report[3],
+    uint16_t result = gii_decode(profile, sizeof profile, damaged, size, out, size, form, bytes, sizeof bytes);
+    if (result == GII_OK) {
+        struct gii_report report = gii_report_of(bytes);
+        printf("read: last stage %d, %d bytes changed, %s\n", report.last_stage, report.changed,
                memcmp(out, written, size) == 0 ? "as written" : "not as written");
         for (int i = 0; i < 8; i++)
-            if (report[4 + 3 * i] == 1)
-                printf("  strip %d: %d bytes changed, settled at stage %d\n", i, report[5 + 3 * i], report[6 + 3 * i]);
+            if (report.strip[i].mended)
+                printf("  strip %d: %d bytes changed, settled at stage %d\n", i, report.strip[i].changed,
+                       report.strip[i].stage);
     } else {
-        printf("refused %d after stage %d\n", number, report[0]);
+        printf("refused %d after stage %d: %s; the report is %s\n", gii_number(result), gii_stage(result),
+               gii_message(gii_number(result)), memcmp(bytes, kept, sizeof kept) == 0 ? "as it was" : "changed");
     }
     free(out);
 }
@@ -36,7 +39,7 @@ int main(void) {
     size_t size = gii_block_size(profile, sizeof profile);
     printf("sizes %zu %zu\n", data_size, size);
 
-    uint8_t *data = malloc(data_size), *written = malloc(size), *damaged = malloc(size);
+    uint8_t *data = malloc(data_size), *written = malloc(size), *damaged = malloc(size), *back = malloc(data_size);
     for (size_t k = 0; k < data_size; k++)
         data[k] = (uint8_t)(7 * k + 3);
     printf("write %d\n", gii_encode(profile, sizeof profile, data, data_size, written, size));
@@ -48,6 +51,8 @@ int main(void) {
     read_back(damaged, written, size, GII_PLAIN);
     read_back(damaged, written, size, GII_LOOKAHEAD);
     read_back(damaged, written, size, GII_SCALED);
+    uint16_t result = gii_read(profile, sizeof profile, damaged, size, back, data_size);
+    printf("data %d: %s\n", result, memcmp(back, data, data_size) == 0 ? "as given" : "not as given");
 
     size_t start = gii_fetch_start(profile, sizeof profile, written, size, 1);
     size_t part = gii_fetch_size(profile, sizeof profile, written, size, 1);
@@ -70,5 +75,6 @@ int main(void) {
     free(data);
     free(written);
     free(damaged);
+    free(back);
     return 0;
 }

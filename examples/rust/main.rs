@@ -1,5 +1,5 @@
-// Writes a block, damages it, reads it back and fetches a strip. ../c/main.c is the same program; ../expected is what
-// both print.
+// Writes a block, damages it, reads it and its data back and fetches a strip. ../c/main.c is the same program;
+// ../expected is what both print.
 
 /// The functions of include/gii.h, which says what they promise. Each slice is a pointer and a length.
 mod sys {
@@ -24,7 +24,15 @@ mod sys {
             form: u8,
             report: *mut u8,
             report_size: usize,
-        ) -> u8;
+        ) -> u16;
+        pub fn gii_read(
+            profile: *const u8,
+            profile_size: usize,
+            block: *const u8,
+            block_size: usize,
+            data: *mut u8,
+            data_size: usize,
+        ) -> u16;
         pub fn gii_fetch(profile: *const u8, profile_size: usize, block: *const u8, block_size: usize, i: usize) -> u8;
         pub fn gii_fetch_start(
             profile: *const u8,
@@ -47,10 +55,24 @@ mod sys {
 mod gii {
     use super::sys;
 
-    pub const REPORT: usize = 28;
+    pub const PROFILE_BYTES: usize = 7;
+    pub const REPORT_BYTES: usize = 27;
     pub const PLAIN: u8 = 0;
     pub const LOOKAHEAD: u8 = 1;
     pub const SCALED: u8 = 2;
+
+    /// A refusal: its number, and with 8 the stage after which reading ended.
+    pub struct Refusal {
+        pub number: u8,
+        pub stage: u8,
+    }
+
+    fn answer(result: u16) -> Result<(), Refusal> {
+        match result {
+            0 => Ok(()),
+            _ => Err(Refusal { number: (result & 255) as u8, stage: (result >> 8) as u8 }),
+        }
+    }
 
     pub fn data_size(profile: &[u8]) -> usize {
         unsafe { sys::gii_data_size(profile.as_ptr(), profile.len()) }
@@ -66,8 +88,27 @@ mod gii {
         }
     }
 
-    pub fn decode(profile: &[u8], input: &[u8], out: &mut [u8], form: u8, report: &mut [u8]) -> u8 {
-        unsafe {
+    pub fn read(profile: &[u8], block: &[u8], data: &mut [u8]) -> Result<(), Refusal> {
+        answer(unsafe {
+            sys::gii_read(
+                profile.as_ptr(),
+                profile.len(),
+                block.as_ptr(),
+                block.len(),
+                data.as_mut_ptr(),
+                data.len(),
+            )
+        })
+    }
+
+    pub fn decode(
+        profile: &[u8],
+        input: &[u8],
+        out: &mut [u8],
+        form: u8,
+        report: &mut [u8],
+    ) -> Result<(), Refusal> {
+        answer(unsafe {
             sys::gii_decode(
                 profile.as_ptr(),
                 profile.len(),
@@ -79,7 +120,7 @@ mod gii {
                 report.as_mut_ptr(),
                 report.len(),
             )
-        }
+        })
     }
 
     /// The data of strip i, or the number of the refusal.
@@ -96,7 +137,7 @@ mod gii {
     }
 }
 
-const PROFILE: [u8; 7] = [8, 3, 255, 14, 16, 18, 24];
+const PROFILE: [u8; gii::PROFILE_BYTES] = [8, 3, 255, 14, 16, 18, 24];
 
 /// Changes the first `count` bytes of strip i.
 fn damage(block: &mut [u8], i: usize, count: usize) {
@@ -107,17 +148,18 @@ fn damage(block: &mut [u8], i: usize, count: usize) {
 
 /// Reads a damaged block, and says whether it is the one that was written.
 fn read_back(damaged: &[u8], written: &[u8], form: u8) {
-    let mut report = [0; gii::REPORT];
+    let mut report = [0; gii::REPORT_BYTES];
     let mut out = vec![0; damaged.len()];
-    let number = gii::decode(&PROFILE, damaged, &mut out, form, &mut report);
-    if number != 0 {
-        println!("refused {number} after stage {}", report[0]);
+    if let Err(gii::Refusal { number, stage }) = gii::decode(&PROFILE, damaged, &mut out, form, &mut report) {
+        let what = if number == 8 { "too many strips have too many changes" } else { "refused" };
+        let kept = if report == [0; gii::REPORT_BYTES] { "as it was" } else { "changed" };
+        println!("refused {number} after stage {stage}: {what}; the report is {kept}");
         return;
     }
-    let changed = u16::from_be_bytes([report[2], report[3]]);
+    let changed = u16::from_be_bytes([report[1], report[2]]);
     let same = if out == written { "as written" } else { "not as written" };
-    println!("read {number}: last stage {}, {changed} bytes changed, {same}", report[1]);
-    for (i, line) in report[4..].chunks(3).enumerate() {
+    println!("read: last stage {}, {changed} bytes changed, {same}", report[0]);
+    for (i, line) in report[3..].chunks(3).enumerate() {
         if line[0] == 1 {
             println!("  strip {i}: {} bytes changed, settled at stage {}", line[1], line[2]);
         }
@@ -140,6 +182,9 @@ fn main() {
     read_back(&damaged, &written, gii::PLAIN);
     read_back(&damaged, &written, gii::LOOKAHEAD);
     read_back(&damaged, &written, gii::SCALED);
+    let mut back = vec![0; data_size];
+    let number = gii::read(&PROFILE, &damaged, &mut back).map_or_else(|refusal| refusal.number, |()| 0);
+    println!("data {number}: {}", if back == data { "as given" } else { "not as given" });
 
     let before = gii::fetch(&PROFILE, &written, 0).map_or(0, |part| part.len());
     match gii::fetch(&PROFILE, &written, 1) {
@@ -163,5 +208,7 @@ fn main() {
     }
     let number = gii::encode(&PROFILE[..6], &data, &mut written);
     println!("refused {number}: a profile of six bytes, size {}", gii::data_size(&PROFILE[..6]));
-    println!("refused {}: nothing at all", gii::decode(&[], &[], &mut [], gii::PLAIN, &mut []));
+    if let Err(refusal) = gii::decode(&[], &[], &mut [], gii::PLAIN, &mut []) {
+        println!("refused {}: nothing at all", refusal.number);
+    }
 }

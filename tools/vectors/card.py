@@ -1,15 +1,39 @@
-"""test_card: the model's cards of seed 7, and FORMAT's sample card cut at every byte and followed by one byte too
-many. The lists are what the model's card program prints."""
+"""test_card: the model's cards of seed 7, FORMAT's sample card cut at every byte and followed by one byte too many, and
+a card of hundreds of blocks, whole, cut in its last block and followed by one byte too many. The lists are what the
+model's card program prints."""
+import random
+
 import cases
 import gii
 from .common import number, sized, stored
+
+BLOCKS = 500                                     # more than a byte can number
+PROFILE = bytes([2, 1, 5, 1, 2, 0, 0])           # FORMAT's small profile: blocks of ten bytes
+
+
+def long():
+    """A card of hundreds of blocks, of which some are clean, some are damaged, and some are lost."""
+    rng = random.Random('long card/7')
+    _, profile = gii.read_profile(PROFILE)
+    card = bytes([len(PROFILE)]) + PROFILE + number(BLOCKS)
+    for _ in range(BLOCKS):
+        block = bytearray(gii.write_triangular(profile, bytes(rng.randrange(256) for _ in range(profile.data_size))))
+        for place in rng.sample(range(profile.size), rng.choice([0, 0, 1, 2, 3])):
+            block[place] ^= rng.randint(1, 255)
+        card += block
+    return card
+
+
+def long_cards():
+    card = long()
+    return [card, card[:-1], card + b'\0']
 
 
 def make():
     with stored(cases.cards) as folder:
         cards = {path.stem: path.read_bytes() for path in sorted((folder / 'cards').glob('*.bin'))}
     sample = cards['sample']
-    every = list(cards.values()) + [sample[:k] for k in range(len(sample))] + [sample + b'\0']
+    every = list(cards.values()) + [sample[:k] for k in range(len(sample))] + [sample + b'\0'] + long_cards()
     stdin = number(len(every)) + b''.join(sized(card) for card in every)
     stdout = ''.join('card of %d\n' % len(card) + gii.card_program(card) for card in every)
     return {'stdin': stdin, 'stdout': stdout.encode()}

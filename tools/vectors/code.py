@@ -1,12 +1,12 @@
-"""test_code: profiles, writes and fetches, answered by the model. Some cases are the model's of seed 7, the others are
-made here from a fixed generator."""
+"""test_code: profiles, writes, fetches and data that are read, answered by the model. Some cases are the model's of
+seed 7, the others are made here from a fixed generator."""
 import random
 
 import cases
 import gii
 from .common import number, numbers, rows, sized, spaced, stored, text
 
-PROFILE, WRITE, FETCH = 0, 1, 2
+PROFILE, WRITE, FETCH, DATA = 0, 1, 2, 3
 SAMPLE = bytes([2, 1, 5, 1, 2, 0, 0])
 BEFORE = 170             # what an output holds before it is written to
 
@@ -36,6 +36,22 @@ class Cases:
         refusal, start, end = gii.fetch(profile, len(block), i)
         line = '%s | %d |%s' % (spaced([len(block), i]), refusal, spaced(block[start:end]))
         self.add(FETCH, 'fetch', bytes(profile), sized(block) + number(i), line)
+
+    def data(self, profile, block, size):
+        refusal, p = gii.read_profile(profile)
+        out = bytes([BEFORE]) * size
+        if p and len(block) != p.size:
+            refusal = 6
+        elif p and size != p.data_size:
+            refusal = 7
+        elif p:
+            answer = gii.decode(p, bytes(block))
+            refusal = answer.number
+            if not refusal:
+                out = bytes(answer.block[k] for k in gii.data_places(p))
+        line = '%s | %d |%s' % (spaced([len(block), size]), refusal, spaced(out))
+        self.add(DATA, 'data', bytes(profile), sized(block) + number(size), line)
+        return refusal, out
 
 
 def samples(c):
@@ -143,6 +159,32 @@ def refusals(c, some):
             c.fetch(SAMPLE, some(size), i)
 
 
+def data_cases(c, rng, some):
+    """Blocks with few and with many changes, and sizes at fault."""
+    numbers_seen = set()
+    for m, v, n, t in (2, 1, 5, (1, 2)), (1, 0, 7, (2,)), (3, 2, 9, (1, 2, 3)), (8, 3, 24, (2, 4, 6, 8)), \
+            (4, 3, 17, (1, 2, 2, 5)), (8, 3, 255, (14, 16, 18, 24)):
+        profile = profile_of(m, v, n, t)
+        p = gii.read_profile(profile)[1]
+        for changes in 0, 0, 1, t[0], t[0], t[0] + 1, t[v], t[v] + 1, 2 * t[v], n:
+            given = some(p.data_size)
+            block = bytearray(gii.write(profile, given, p.size)[1])
+            i = rng.randrange(m)
+            for k in rng.sample(range(n), min(changes, n)):
+                block[i * n + k] ^= rng.randint(1, 255)
+            refusal, out = c.data(profile, block, p.data_size)
+            assert changes > t[0] or out == given
+            numbers_seen.add(refusal)
+        for size, room in (p.size - 1, p.data_size), (p.size, p.data_size - 1), (p.size, p.size), (p.size + 1, 0), \
+                (0, p.data_size):
+            numbers_seen.add(c.data(profile, some(size), room)[0])
+    for profile in [2, 1, 5, 1, 2, 0], [9, 1, 5, 1, 2, 0, 0], [2, 2, 5, 1, 2, 2, 0], [2, 1, 5, 2, 2, 0, 0], \
+            [2, 1, 4, 1, 2, 0, 0]:
+        numbers_seen.add(c.data(bytes(profile), some(10), 4)[0])
+    c.data(bytes([2, 1, 26, 1, 2, 0, 0]), some(52), 46)
+    assert {0, 1, 2, 3, 4, 5, 6, 7, 8} <= numbers_seen, numbers_seen
+
+
 def make():
     c = Cases()
     rng = random.Random('code_vectors/1')
@@ -157,4 +199,5 @@ def make():
     every_shape(c, rng, some)
     random_writes(c, rng, some)
     refusals(c, some)
+    data_cases(c, random.Random('code_vectors/data'), some)
     return {'stdin': number(len(c.bytes)) + b''.join(c.bytes), 'stdout': text(c.lines)}

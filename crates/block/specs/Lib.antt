@@ -8,3 +8,5 @@ pub mod ReceivedRows
 -- codeword: CodewordDefinition is what the promises speak of; CodewordLaws proves them.
 pub mod CodewordDefinition
 pub mod CodewordLaws
+-- gather: Gather is what the promise speaks of, with its laws.
+pub mod Gather

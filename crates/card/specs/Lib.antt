@@ -17,3 +17,6 @@ pub mod PrintedStep
 pub mod PrintedFollows
 pub mod PrintedFalls
 pub mod PrintedWhole
+-- list: ListDefinition is what the promises speak of.
+pub mod ListDefinition
+pub mod ListLaws

@@ -1,6 +1,7 @@
 -- Sections come to an end.
 --
--- Proved: a step brings the end nearer (step-falls), for bytes that are below 256.
+-- Proved: some sections are left, unless all is printed (some-left); a step brings the end nearer (step-falls), for
+-- bytes that are below 256.
 use Prim.Native.Nat.{ℕ, suc, _+_, _-_, _≤_, _<_}
 use mathlib.Core.Path.{_≡_, refl}
 use mathlib.Core.Bool.{Bool, true, false, cond, true≢false}
@@ -23,7 +24,7 @@ use Rattle.card.specs.HeadingDefinition.{profile-step}
 use Rattle.card.specs.PrintedDefinition.{count-of}
 use Rattle.card.specs.PrintedStep.{whole, cut, step}
 
-some-left : (s : Section) → over s ≡ false → 0 < left s
+pub some-left : (s : Section) → over s ≡ false → 0 < left s
 some-left Size h = omega arith
 some-left Bytes h = omega arith
 some-left (Count p) h = omega arith

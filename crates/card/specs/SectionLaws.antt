@@ -47,7 +47,8 @@ pub profile-accepts : (b : List ℕ) (q : Profile) → profile-of b ≡ Accepted
 unfolding accepts
 profile-accepts b q e =
     let (same, (_, (y2, (y3, (y4, (y5, _)))))) = asked-yes Card (lent b 0 0 0) (read b) q e in
-    let all = asked-all Card alone (read b) (refl, (y2, (y3, (y4, (y5, (refl, (refl, (refl, (refl, tt))))))))) in
+    let all = asked-all Card alone (read b)
+    (refl, (y2, (y3, (y4, (y5, (refl, (refl, (refl, (refl, (refl, tt)))))))))) in
     subst (λ q. passes (asked Card alone q) ≡ true) same (ap passes all)
 
 -- a block section has the bytes of a block, few enough

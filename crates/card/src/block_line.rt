@@ -18,8 +18,8 @@ use solver::Form;
 // How many entries a table has.
 pub const TABLE: usize = divider::generator::TABLE;
 
-// An array for a block, all zeros.
-fn blank() -> [u8; SECTION]
+// An array for a block, or for any section, all zeros.
+pub fn blank() -> [u8; SECTION]
     ensures { λ r. ⌜ length r ≡ 2040 ⌝ }
 {
     [0u8; SECTION]

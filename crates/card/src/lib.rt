@@ -1,8 +1,9 @@
 // A card, section by section: each is judged as it arrives, and a line is printed for it. What one section comes to,
 // and that all of them together print the list of the card, stands in specs/PrintedStep.antt and
-// specs/PrintedWhole.antt.
+// specs/PrintedWhole.antt. `list` does so from standard input to standard output.
 mod block_line;
 mod heading;
+pub mod list;
 pub mod section;
 
 ghost use Prim.Native.Nat.{_<_};

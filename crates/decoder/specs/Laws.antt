@@ -29,6 +29,7 @@ use Rattle.staged_decoding.specs.Clean.{untouched, decode-codeword}
 use Rattle.stages.specs.declared.Ending.{Ending}
 use Rattle.stages.specs.Report.{says, Tells}
 use Rattle.stages.specs.View.{Reached}
+use Rattle.stages.specs.Walk.{reached-settled, reached-solvers}
 use Rattle.decoder.specs.declared.prepared.Reading.{Reading}
 use Rattle.decoder.specs.Definition.{Result, concluded, refused, Gives}
 
@@ -45,8 +46,7 @@ reached-same {p} {f} {z = z} {e = e} same = subst (λ l. Reached p f (bytes l) z
 pub reached-subwords : (p : Profile) (f : Form) (y b : Series) (e : Ending)
     → Valid p → Reached p f y b e → e .settled ≡ true → Subwords p b
 reached-subwords p f y b e ok r h =
-    let (g, is, block, _) = r .0 h in
-    subst (Subwords p) block (settled-subwords p ok y (e .stage) g is)
+    subst (Subwords p) (r .block) (settled-subwords p ok y (e .stage) (r .last) (reached-settled p f y b e r h))
 
 -- ---- ends
 
@@ -70,11 +70,11 @@ gives-kept p f b o c a ok long small code copied says tells =
 module _ (p : Profile) (f : Form) (y b : Series) (e : Ending) (r : Reached p f y b e) where
   unsettled-is : e .settled ≡ false → concluded p (decode p y) ≡ refused (Unsettled (e .stage))
   unfolding decode
-  unsettled-is h = rw (r .1 h)
+  unsettled-is h = rw (rw h at (r .is))
 
   foreign-is : e .settled ≡ true → holds (codeword? p b) ≡ false → concluded p (decode p y) ≡ refused NotCodeword
   unfolding decode
-  foreign-is h wrong = let (g, is, block, _) = r .0 h in rw (is, block, wrong)
+  foreign-is h wrong = rw (reached-settled p f y b e r h, r .block, wrong)
 
   pub gives-unsettled : (o c : List ℕ) (a : Reading)
       → e .settled ≡ false → a .answer ≡ answer.Refused (Unsettled (e .stage)) → c ≡ o
@@ -94,15 +94,14 @@ pub gives-read : (p : Profile) (f : Form) (y : Series) (b o c : List ℕ) (e : E
     → Gives f (concluded p (decode p y)) o c a
 unfolding decode report
 gives-read p f y b o c e a copied long small r h code says lines changed last =
-    let (g, is, block, shows) = r .0 h in
-    rw (is, block, code) (record {
+    rw (reached-settled p f y (bytes b) e r h, r .block, code) (record {
       answer = says;
       block = copied ∙ sym (word-bytes (block-size p) b long small);
       report = rw lines (record {
-        long = shows .long;
-        lines = shows .says;
-        changed = changed ∙ total-cong (p .subwords) _ _ (λ i m. ap count-of (shows .says i));
+        long = r .long;
+        lines = r .kept .says;
+        changed = changed ∙ total-cong (p .subwords) _ _ (λ i m. ap count-of (r .kept .says i));
         last = last;
-        solvers = shows .solvers;
+        solvers = reached-solvers p f y (bytes b) e r h;
       });
     })

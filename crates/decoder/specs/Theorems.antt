@@ -1,23 +1,27 @@
--- What the promises of `decode` come to. `reading b y o` is the result for the profile bytes b, the input y and an
--- output of o bytes; what is answered, written and reported for it is what `decode` promises.
+-- What the promises of `decode` and `extract` come to. `reading b y o` is the result for the profile bytes b, the input
+-- y and an output of o bytes; what is answered, written and reported for it is what `decode` promises. `extraction b y
+-- o` is the same for `extract`.
 --
---   Profiled b p n      the bytes b are an accepted profile p whose blocks have n bytes
+--   Profiled b p n    the bytes b are an accepted profile p whose blocks have n bytes
 --   Accepts b y o     the reading is accepted: of which profile, with which block and report
---   Alike f g e k a c  the readings a and c end alike, but for the solvers, which stand at the end of the same rounds
---                     in each form
+--   Reports p y e a   what the report of the reading a says of the input y and of e, what the output holds in the end
+--   Alike f g x e k a c   the readings a and c end alike, but for the solvers: each stands at the end of the rounds of
+--                     its subword, which x says, in its form
 --
--- Proved: an accepted block is a codeword, always (read-accepts, read-codeword); a block with right sizes is decoded as
--- staged decoding says (reading-is); a written block is restored under the condition of FORMAT 6.11 (read-restores),
--- and one that was not touched always (read-written); the answer is 8 exactly if decoding fails (read-fails), where no
--- mistake is made exactly if too many subwords have too many changes (read-fails-exactly). Two readings of the same
--- bytes that differ in the form alone end alike (alike).
-use Prim.Native.Nat.{ℕ, _<_}
-use mathlib.Core.Path.{_≡_, refl, sym, ap, _∙_}
+-- Proved: an accepted block is a codeword, always (read-accepts, read-codeword), and its report counts what was changed
+-- (read-reports); a block with right sizes is decoded as staged decoding says (reading-is, extraction-is); a written
+-- block is restored under the condition of FORMAT 6.11 (read-restores), and one that was not touched always
+-- (read-written); the answer is 8 exactly if decoding fails (read-fails), where no mistake is made exactly if too many
+-- subwords have too many changes (read-fails-exactly). Two readings of the same bytes that differ in the form alone end
+-- alike (alike).
+use Prim.Native.Nat.{ℕ, _≤_, _<_}
+use mathlib.Core.Path.{_≡_, refl, sym, ap, _∙_, subst}
+use mathlib.Core.Bool.{not}
 use mathlib.Core.Logic.{_↔_}
 use mathlib.Core.List.{List, map}
 use native.Mathlib.Omega.{arith}
 use lib.ListN.{length, getD}
-use Rattle.field.specs.Field.{F, byte}
+use Rattle.field.specs.Field.{byte, _≟_}
 use Rattle.series.specs.Series.{Series}
 use Rattle.series.specs.Shift.{cut, cut-low}
 use Rattle.series.specs.Array.{bytes, bytes-word, word-bytes}
@@ -27,27 +31,30 @@ use Rattle.profile.specs.declared.Refusal.the-variants.{Unsettled}
 use Rattle.profile.specs.declared.Parsed.{Parsed}
 use Rattle.profile.specs.declared.Parsed.the-variants.{Accepted, Refused}
 use Rattle.profile.specs.declared.Answer.the-variants as answer
-use Rattle.profile.specs.Definition.{block-size}
+use Rattle.profile.specs.Definition.{block-size, data-size}
 use Rattle.profile.specs.declared.questions.Caller.the-variants.{Decoder, Card}
 use Rattle.profile.specs.Questions.{profile-of, reading-of}
 use Rattle.profile.specs.QuestionsLaws.{admitted-profile}
-use Rattle.profile.specs.Valid.{Valid, admitted-valid, reading-admitted}
-use Rattle.code.specs.Definition.{Codeword}
-use Rattle.code.specs.Block.{agree-block, codeword-cong}
+use Rattle.profile.specs.Valid.{Valid, admitted-valid, reading-admitted, extracting-admitted}
+use Rattle.series.specs.Decide.{holds}
+use Rattle.code.specs.Definition.{subword, Codeword}
+use Rattle.code.specs.Block.{Agree, agree-block, codeword-cong}
 use Rattle.solver.specs.declared.Form.{Form}
 use Rattle.solver.specs.ContinuationDefinition.{Ended}
 use Rattle.staged_decoding.specs.Definition as staged
 use Rattle.staged_decoding.specs.Definition.{Outcome, accepted, failed, foreign, decode}
-use Rattle.staged_decoding.specs.Course.{Fails, failed-course}
-use Rattle.staged_decoding.specs.Accepted.{accepted-codeword}
+use Rattle.staged_decoding.specs.Definition.{clean, count-of, total, report, differences}
+use Rattle.staged_decoding.specs.Count.{count-cong, total-cong}
+use Rattle.staged_decoding.specs.Course.{Over, Fails, accepted-course, failed-course}
+use Rattle.staged_decoding.specs.Accepted.{accepted-codeword, accepted-count, accepted-changed, accepted-line-past}
 use Rattle.staged_decoding.specs.Restorable.{Unmistaken, Restorable, TooMany, Restored}
 use Rattle.staged_decoding.specs.Restoring.{restoring-bytes}
 use Rattle.staged_decoding.specs.Failing.{failing-exactly}
 use Rattle.staged_decoding.specs.Clean.{untouched, decode-codeword}
 use Rattle.stages.specs.declared.report.Line.{Line}
-use Rattle.stages.specs.Report.{says, Has}
+use Rattle.stages.specs.Report.{says, Has, Tells}
 use Rattle.decoder.specs.declared.prepared.Reading.{Reading}
-use Rattle.decoder.specs.Definition.{Result, read, concluded, result-of, reading}
+use Rattle.decoder.specs.Definition.{Result, read, concluded, result-of, reading, extraction}
 use Rattle.decoder.specs.Definition.{answer-to, block-of, report-of, Gives}
 
 -- ---- accepted profiles
@@ -64,6 +71,12 @@ pub reading-is : (b : List ℕ) (p : Profile) (y : List ℕ) (o : ℕ) → Profi
     → reading b y o ≡ concluded p (decode p (bytes y))
 reading-is b p y o j e =
     ap (λ a. result-of a y) (reading-admitted b (length y) o p (j .profile) (j .size) (e ∙ j .size))
+
+pub extraction-is : (b : List ℕ) (p : Profile) (y : List ℕ) (o : ℕ) → profile-of b ≡ Accepted p
+    → length y ≡ block-size p → o ≡ data-size p
+    → extraction b y o ≡ concluded p (decode p (bytes y))
+extraction-is b p y o profile size room =
+    ap (λ a. result-of a y) (extracting-admitted b (length y) o p profile size room)
 
 -- ---- accepted blocks
 
@@ -103,15 +116,63 @@ read-accepts b y o e = go (reading-of b (length y) o) refl e
 block-is : (p : Profile) (s : Series) → bytes (map byte (word (block-size p) s)) ≡ cut (block-size p) s
 block-is p s = bytes-word (word (block-size p) s) ∙ word-cut (block-size p) s
 
+cut-agrees : (p : Profile) (s : Series) → Agree p 0 s (cut (block-size p) s)
+cut-agrees p s = agree-block p 0 s (cut (block-size p) s) (λ k _ l. sym (cut-low (block-size p) s k l))
+
 pub read-codeword : (b y o : List ℕ) → answer-to (reading b y (length o)) ≡ answer.Accepted
     → (p : Profile) × (profile-of b ≡ Accepted p) × Codeword p (bytes (block-of (reading b y (length o)) o))
 read-codeword b y o e =
     let a = read-accepts b y (length o) e in
-    let n = block-size (a .p) in
-    let same = agree-block (a .p) 0 (a .block) (cut n (a .block)) (λ k _ l. sym (cut-low n (a .block) k l)) in
-    let code = codeword-cong (a .p) (a .block) (cut n (a .block)) same
+    let code = codeword-cong (a .p) (a .block) (cut (block-size (a .p)) (a .block)) (cut-agrees (a .p) (a .block))
     (accepted-codeword (a .p) (bytes y) (a .block) (a .report) (a .decoded)) in
     (a .p, a .profile, rw (a .is, block-is (a .p) (a .block)) code)
+
+-- ---- reports
+
+pub record Reports (p : Profile) (y e : List ℕ) (a : Reading) : Type 0 where
+  -- the count of a line says at how many positions its subword was changed, and lines that are no subword's are clean
+  pub count : (i : ℕ) → i < p .subwords → count-of (says (a .report .lines) i) ≡ differences p (bytes y) (bytes e) i
+  pub past : (i : ℕ) → p .subwords ≤ i → says (a .report .lines) i ≡ clean
+  pub changed : a .report .changed ≡ total (p .subwords) (differences p (bytes y) (bytes e))
+  -- the last stage was entered, and after it every subword is settled
+  pub last : Over p (bytes y) (a .report .last)
+
+differences-agree : (p : Profile) (y s t : Series) → Agree p 0 s t → (i : ℕ) → i < p .subwords
+    → differences p y s i ≡ differences p y t i
+unfolding differences
+differences-agree p y s t same i h =
+    count-cong (p .length) _ _
+    (λ q l. ap (λ v. not (holds (subword (p .length) y i q ≟ v))) (same i (omega arith) h q l))
+
+pub read-reports : (f : Form) (b y o e : List ℕ) (a : Reading) → Gives f (reading b y (length o)) o e a
+    → a .answer ≡ answer.Accepted
+    → (p : Profile) × (profile-of b ≡ Accepted p) × Codeword p (bytes e) × Reports p y e a
+unfolding report
+read-reports f b y o e a g answered =
+    let says = sym (g .answer) ∙ answered in
+    let x = read-accepts b y (length o) says in
+    let p = x .p in
+    let is : bytes e ≡ cut (block-size p) (x .block) =
+    ap bytes (g .block ∙ ap (λ r. block-of r o) (x .is)) ∙ block-is p (x .block) in
+    let tells = subst (λ r. Tells f (report-of r) (a .report)) (x .is) (g .report) in
+    let same : (i : ℕ) → i < p .subwords → differences p (bytes y) (x .block) i ≡ differences p (bytes y) (bytes e) i =
+    λ i h. differences-agree p (bytes y) (x .block) _ (cut-agrees p (x .block)) i h
+    ∙ ap (λ s. differences p (bytes y) s i) (sym is) in
+    let course = accepted-course p (bytes y) (x .block) (x .report) .0 (x .decoded) in
+    let last : course .last ≡ a .report .last =
+    sym (tells .last ∙ ap (λ (z : staged.Report). z .last) (course .says)) in (
+      p,
+      x .profile,
+      subst (λ s. Codeword p s) (sym is) (codeword-cong p (x .block) _ (cut-agrees p (x .block)) (course .code)),
+      record {
+        count = λ i h. ap count-of (tells .lines i)
+            ∙ accepted-count p (bytes y) (x .block) (x .report) (x .decoded) i h ∙ same i h;
+        past = λ i h. tells .lines i ∙ accepted-line-past p (bytes y) (x .block) (x .report) (x .decoded) i h;
+        changed = tells .changed ∙ accepted-changed p (bytes y) (x .block) (x .report) (x .decoded)
+            ∙ total-cong (p .subwords) _ _ same;
+        last = subst (Over p (bytes y)) last (course .over);
+      },
+    )
 
 -- ---- restoring
 
@@ -163,24 +224,24 @@ module _ (b : List ℕ) (p : Profile) (y : List ℕ) (o : ℕ) (j : Profiled b p
 
 -- ---- all three forms
 
--- e and k are what the outputs hold in the end
-pub record Alike (f g : Form) (e k : List ℕ) (a c : Reading) : Type 0 where
+-- e and k are what the outputs hold in the end, x is the report that staged decoding names
+pub record Alike (f g : Form) (x : staged.Report) (e k : List ℕ) (a c : Reading) : Type 0 where
   pub answer : a .answer ≡ c .answer
   pub block : e ≡ k
   pub lines : (i : ℕ) → says (a .report .lines) i ≡ says (c .report .lines) i
   pub changed : a .report .changed ≡ c .report .changed
   pub last : a .report .last ≡ c .report .last
   pub solvers : (i : ℕ) (l m : Line) → Has (a .report .lines) i l → Has (c .report .lines) i m
-      → (rounds : List (List F)) × Ended f rounds (l .solver) × Ended g rounds (m .solver)
+      → Ended f (x .rounds i) (l .solver) × Ended g (x .rounds i) (m .solver)
 
 -- the promises of `decode` are the fields of Gives, r being `reading` of what is lent
 pub alike : (f g : Form) (r : Result) (o e k : List ℕ) (a c : Reading)
-    → Gives f r o e a → Gives g r o k c → Alike f g e k a c
+    → Gives f r o e a → Gives g r o k c → Alike f g (report-of r) e k a c
 alike f g r o e k a c x y = record {
   answer = x .answer ∙ sym (y .answer);
   block = x .block ∙ sym (y .block);
   lines = λ i. x .report .lines i ∙ sym (y .report .lines i);
   changed = x .report .changed ∙ sym (y .report .changed);
   last = x .report .last ∙ sym (y .report .last);
-  solvers = λ i l m h j. (report-of r .rounds i, x .report .solvers i l h, y .report .solvers i m j);
+  solvers = λ i l m h j. (x .report .solvers i l h, y .report .solvers i m j);
 }

@@ -46,7 +46,9 @@ pub fn refuse(q: Refusal, form: Form, out: &mut [u8]) -> Reading
 }
 
 // An array for a block, all zeros.
-fn blank() -> [u8; SYMBOLS] {
+pub fn blank() -> [u8; SYMBOLS]
+    ensures { λ r. ⌜ length r ≡ 2040 ⌝ }
+{
     [0u8; SYMBOLS]
 }
 

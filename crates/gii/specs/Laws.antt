@@ -3,7 +3,7 @@
 -- Proved: a size is 0 exactly if the profile is refused (size-refuses; data-some, block-some); the part of a fetch
 -- stands where its start says (part-stands), and only the empty one has size 0 (size-empty); an accepted fetch has an
 -- accepted profile (fetched-small, start-accepted, start-refused); any other number names the plain form (form-other);
--- a buffer is filled with what a reading tells (numbers-filled).
+-- a buffer is filled with what a reading tells, if that is no refusal (numbers-filled).
 use Prim.Native.Nat.{ℕ, zero, suc, _+_, _-_, _*_, _<_}
 use mathlib.Core.Path.{_≡_, refl, sym, ap, ap₂, _∙_, fun-ext}
 use mathlib.Core.List.{List, [], _∷_}
@@ -19,7 +19,7 @@ use Rattle.profile.specs.declared.Parsed.the-variants.{Accepted, Refused}
 use Rattle.profile.specs.declared.Answer.{Answer}
 use Rattle.profile.specs.declared.Answer.the-variants as answer
 use Rattle.profile.specs.declared.questions.Caller.the-variants.{Fetch, Card}
-use Rattle.profile.specs.Definition.{answer-of, block-size, data-size}
+use Rattle.profile.specs.Definition.{answer-of, block-size, data-size, unless-refused}
 use Rattle.profile.specs.Questions.{profile-of, fetching}
 use Rattle.profile.specs.QuestionsLaws.{admitted-profile}
 use Rattle.profile.specs.Valid.{Valid, admitted-valid, checks-below, data-start-most}
@@ -31,8 +31,8 @@ use Rattle.solver.specs.declared.Form.the-variants.{Plain}
 use Rattle.stages.specs.Report.{says, Tells}
 use Rattle.stages.specs.declared.report.Report.{Report}
 use Rattle.decoder.specs.Definition.{Result, answer-to, report-of}
-use Rattle.gii.specs.NumbersDefinition.{stage-of, listed, filled}
-use Rattle.gii.specs.Definition.{Stands, form-of, numbers}
+use Rattle.gii.specs.NumbersDefinition.{listed, filled}
+use Rattle.gii.specs.Definition.{Stands, form-of, numbers, reported}
 
 -- ---- sizes
 
@@ -115,13 +115,12 @@ form-other (suc (suc (suc n))) h k = refl
 -- ---- reports
 
 -- in whatever form
-pub numbers-filled : (f : Form) (r : Result) (x : Report) (a : Answer) (s : ℕ) (l b e : List ℕ) → a ≡ answer-to r
+pub numbers-filled : (f : Form) (r : Result) (x : Report) (a : Answer) (l b e : List ℕ) → a ≡ answer-to r
     → Tells f (report-of r) x
-    → s ≡ stage-of a → l ≡ listed s (x .last) (x .changed) (says (x .lines)) → e ≡ filled l b → e ≡ filled (numbers r) b
-numbers-filled f r x a s l b e is tells stage list end = end ∙ ap (λ l. filled l b) (list ∙ told)
+    → l ≡ listed (x .last) (x .changed) (says (x .lines)) → e ≡ unless-refused a (filled l b) b → e ≡ reported r b
+numbers-filled f r x a l b e is tells list end = end ∙ ap₂ (λ a l. unless-refused a (filled l b) b) is (list ∙ told)
   where
-    told : listed s (x .last) (x .changed) (says (x .lines)) ≡ numbers r
+    told : listed (x .last) (x .changed) (says (x .lines)) ≡ numbers r
     told =
-        ap (λ n. listed n (x .last) (x .changed) (says (x .lines))) (stage ∙ ap stage-of is)
-        ∙ ap₂ (λ n c. listed (stage-of (answer-to r)) n c (says (x .lines))) (tells .last) (tells .changed)
-        ∙ ap (listed (stage-of (answer-to r)) (report-of r .last) (report-of r .changed)) (fun-ext (tells .lines))
+        ap₂ (λ n c. listed n c (says (x .lines))) (tells .last) (tells .changed)
+        ∙ ap (listed (report-of r .last) (report-of r .changed)) (fun-ext (tells .lines))

@@ -1,11 +1,11 @@
--- The numbers of a report, in place of enums and structs.
+-- The numbers of answers and reports, in place of enums and structs.
 --
 --   stage-of a         the stage that an 8 says, 0 with any other number
 --   line-numbers l     the three numbers of a line; lines-numbers n f: those of the lines f 0 to f (n − 1)
---   listed s r c f     the numbers of a report: s is the stage of an 8, r the last stage, c the changed symbols,
---                      f the lines
+--   result-number a    the number of the answer a, and 256 times its stage
+--   listed r c f       the numbers of a report: r is the last stage, c the changed symbols, f the lines
 --   filled l b         the buffer b after as many of the numbers l as it has room for were written to it
-use Prim.Native.Nat.{ℕ, zero, suc, _/_, _%_}
+use Prim.Native.Nat.{ℕ, zero, suc, _+_, _*_, _/_, _%_}
 use mathlib.Core.List.{List, [], _∷_, _++_}
 use lib.ListN.{length, take, drop}
 use Rattle.profile.specs.declared.Refusal.{Refusal}
@@ -13,6 +13,7 @@ use Rattle.profile.specs.declared.Refusal.the-variants.{ProfileSize, Subwords, 
 use Rattle.profile.specs.declared.Refusal.the-variants.{OutputSize, Unsettled, NotCodeword, Subword}
 use Rattle.profile.specs.declared.Answer.{Answer}
 use Rattle.profile.specs.declared.Answer.the-variants.{Accepted, Refused}
+use Rattle.profile.specs.Definition.{answer-number}
 use Rattle.staged_decoding.specs.Definition.{Line, clean, corrected}
 
 -- of a refusal
@@ -32,6 +33,10 @@ abbrev pub stage-of : Answer → ℕ
 stage-of Accepted = 0
 stage-of (Refused q) = unsettled-stage q
 
+-- FORMAT 4.15
+abbrev pub result-number : Answer → ℕ
+result-number a = answer-number a + 256 * stage-of a
+
 abbrev pub line-numbers : Line → List ℕ
 line-numbers clean = 0 ∷ 0 ∷ 0 ∷ []
 line-numbers (corrected k r) = 1 ∷ k ∷ r ∷ []
@@ -41,12 +46,12 @@ lines-numbers zero f = []
 lines-numbers (suc n) f = lines-numbers n f ++ line-numbers (f n)
 
 -- the changed symbols are two bytes, high byte first
-abbrev pub head-numbers : (stage last changed : ℕ) → List ℕ
-head-numbers s r c = s ∷ r ∷ c / 256 ∷ c % 256 ∷ []
+abbrev pub head-numbers : (last changed : ℕ) → List ℕ
+head-numbers r c = r ∷ c / 256 ∷ c % 256 ∷ []
 
--- 28 of them
-abbrev pub listed : (stage last changed : ℕ) → (ℕ → Line) → List ℕ
-listed s r c f = head-numbers s r c ++ lines-numbers 8 f
+-- FORMAT 7.8: 27 of them
+abbrev pub listed : (last changed : ℕ) → (ℕ → Line) → List ℕ
+listed r c f = head-numbers r c ++ lines-numbers 8 f
 
 -- what is not written stays
 abbrev pub filled : List ℕ → List ℕ → List ℕ

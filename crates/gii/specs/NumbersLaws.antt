@@ -11,8 +11,7 @@ use lib.ListN.{length, getD, set, take, drop, length-set, length-append, length-
 use lib.Seq.{take-all, take-suc-set, length-take-le}
 use Rattle.staged_decoding.specs.Definition.{Line}
 use Rattle.stages.specs.declared.report.Line as stored
-use Rattle.stages.specs.Report.{verdict-of}
-use Rattle.stages.specs.Report.{says}
+use Rattle.stages.specs.Report.{verdict-of, says}
 use Rattle.stages.specs.Lines.{has, says-at}
 use Rattle.gii.specs.NumbersDefinition.{line-numbers, lines-numbers, filled}
 
@@ -46,16 +45,16 @@ pub put-three : (list x : List ℕ) (k : ℕ) → k + 3 ≤ length list → leng
 put-three list x k h e = three list k (getD x 0 0) (getD x 1 0) (getD x 2 0) h
     ∙ ap (λ n. take k list ++ n) (entries x e)
 
-pub lines-none : (f : ℕ → Line) (l : List ℕ) → take (4 + 3 * 0) l ≡ take 4 l ++ lines-numbers 0 f
-lines-none f l = sym (append-nil (take 4 l))
+pub lines-none : (f : ℕ → Line) (l : List ℕ) → take (3 + 3 * 0) l ≡ take 3 l ++ lines-numbers 0 f
+lines-none f l = sym (append-nil (take 3 l))
 
 pub lines-more : (lines : List stored.Line) (h list next x : List ℕ) (i : ℕ) (d : stored.Line) → i < length lines
-    → take (4 + 3 * i) list ≡ h ++ lines-numbers i (says lines)
+    → take (3 + 3 * i) list ≡ h ++ lines-numbers i (says lines)
     → x ≡ line-numbers (verdict-of (getD lines i d .verdict))
-    → take (4 + 3 * i + 3) next ≡ take (4 + 3 * i) list ++ x
-    → take (4 + 3 * (i + 1)) next ≡ h ++ lines-numbers (i + 1) (says lines)
+    → take (3 + 3 * i + 3) next ≡ take (3 + 3 * i) list ++ x
+    → take (3 + 3 * (i + 1)) next ≡ h ++ lines-numbers (i + 1) (says lines)
 lines-more lines h list next x i d below is line put =
-    let n : 4 + 3 * (i + 1) ≡ 4 + 3 * i + 3 = omega arith in
+    let n : 3 + 3 * (i + 1) ≡ 3 + 3 * i + 3 = omega arith in
     let l : x ≡ line-numbers (says lines i) = line
     ∙ ap line-numbers (sym (says-at lines i (getD lines i d) (has lines i d below))) in
     ap (λ n. take n next) n
@@ -64,10 +63,10 @@ lines-more lines h list next x i d below is line put =
     ∙ append-assoc h (lines-numbers i (says lines)) (line-numbers (says lines i))
     ∙ ap (λ n. h ++ lines-numbers n (says lines)) (sym (add-one i))
 
-pub lines-all : (f : ℕ → Line) (h head list : List ℕ) (i : ℕ) → i ≡ 8 → length list ≡ 28 → take 4 head ≡ h
-    → take (4 + 3 * i) list ≡ take 4 head ++ lines-numbers i f → list ≡ h ++ lines-numbers 8 f
+pub lines-all : (f : ℕ → Line) (h head list : List ℕ) (i : ℕ) → i ≡ 8 → length list ≡ 27 → take 3 head ≡ h
+    → take (3 + 3 * i) list ≡ take 3 head ++ lines-numbers i f → list ≡ h ++ lines-numbers 8 f
 lines-all f h head list i e long first is =
-    sym (take-all (4 + 3 * i) list (omega arith)) ∙ is ∙ ap₂ (λ n k. n ++ lines-numbers k f) first e
+    sym (take-all (3 + 3 * i) list (omega arith)) ∙ is ∙ ap₂ (λ n k. n ++ lines-numbers k f) first e
 
 -- ---- filling a buffer
 

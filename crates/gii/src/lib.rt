@@ -11,9 +11,9 @@ ghost use Rattle.profile.specs.Questions.{profile-of, writing, fetching};
 ghost use Rattle.profile.specs.LayoutDefinition.{if-accepted, start as Start};
 ghost use Rattle.profile.specs.FetchDefinition.{part as Part, refuses};
 ghost use Rattle.encoder.specs.Definition.{written};
-ghost use Rattle.decoder.specs.Definition.{reading, answer-to, block-of};
-ghost use Rattle.gii.specs.NumbersDefinition.{filled};
-ghost use Rattle.gii.specs.Definition.{Stands, form-of, numbers};
+ghost use Rattle.decoder.specs.Definition.{reading, extraction, answer-to, block-of, data-in};
+ghost use Rattle.gii.specs.NumbersDefinition.{result-number};
+ghost use Rattle.gii.specs.Definition.{Stands, form-of, reported};
 use profile::Answer;
 use solver::Form;
 
@@ -63,7 +63,8 @@ fn form_of(f: u8) -> Form
     }
 }
 
-// Reads a block with the solver in the form of that number. The report's numbers do not depend on it.
+// Reads a block with the solver in the form of that number: the number of the answer, and 256 times the stage of an 8.
+// The promises do not depend on the form, so that none of them binds it.
 #[no_mangle]
 pub extern "C" fn gii_decode(
     profile: &[u8],
@@ -71,21 +72,34 @@ pub extern "C" fn gii_decode(
     out: &mut [u8],
     form: u8,
     report: &mut [u8],
-) -> u8
-    ensures number { λ n. ⌜ n ≡
-        answer-number (answer-to (reading (now (profile .entry)) (now (input .entry)) (length (now (out .entry))))) ⌝ }
+) -> u16
+    ensures result { λ n. ⌜ n ≡
+        result-number (answer-to (reading (now (profile .entry)) (now (input .entry)) (length (now (out .entry))))) ⌝ }
     ensures block { λ _. ⌜ now (out .exit) ≡ block-of (reading (now (profile .entry)) (now (input .entry))
         (length (now (out .entry)))) (now (out .entry)) ⌝ }
-    ensures report { λ _. ⌜ now (report .exit) ≡ filled (numbers (reading (now (profile .entry)) (now (input .entry))
-        (length (now (out .entry))))) (now (report .entry)) ⌝ }
+    ensures report { λ _. ⌜ now (report .exit) ≡ reported (reading (now (profile .entry)) (now (input .entry))
+        (length (now (out .entry)))) (now (report .entry)) ⌝ }
 {
     let r = decoder::decode(profile, input, out, form_of(form));
     let a = r.answer;
     let x = r.report;
     let lines = x.lines;
-    let list = crate::numbers::list_of(crate::numbers::stage_of(a), x.last, x.changed, lines);
-    crate::numbers::fill(&list, report);
-    a.number()
+    let list = crate::numbers::list_of(x.last, x.changed, lines);
+    crate::numbers::fill_if(a, &list, report);
+    crate::numbers::result_of(a)
+}
+
+// Reads the data of a block, in the order in which they were written; what it returns is as with gii_decode.
+#[no_mangle]
+pub extern "C" fn gii_read(profile: &[u8], block: &[u8], data: &mut [u8]) -> u16
+    ensures result { λ n. ⌜ n ≡ result-number
+        (answer-to (extraction (now (profile .entry)) (now (block .entry)) (length (now («data» .entry))))) ⌝ }
+    ensures data { λ _. ⌜ now («data» .exit) ≡ data-in (extraction (now (profile .entry)) (now (block .entry))
+        (length (now («data» .entry)))) (now («data» .entry)) ⌝ }
+{
+    let r = decoder::extract(profile, block, data, Form::Plain);
+    let answer = r.answer;
+    crate::numbers::result_of(answer)
 }
 
 // ---- fetching

@@ -1,11 +1,12 @@
-// A report as numbers, and a buffer that they fill. What the promises speak of stands in specs/NumbersDefinition.antt.
+// Answers and reports as numbers, and a buffer that a report fills. What the promises speak of stands in
+// specs/NumbersDefinition.antt.
 ghost use Prim.Native.Nat.{_+_, _≤_};
 ghost use mathlib.Core.Path.{_≡_};
 ghost use mathlib.Core.List.{_++_};
 ghost use lib.ListN.{length, take};
-ghost use Rattle.stages.specs.Report.{verdict-of};
-ghost use Rattle.stages.specs.Report.{says};
-ghost use Rattle.gii.specs.NumbersDefinition.{unsettled-stage, stage-of, line-numbers};
+ghost use Rattle.profile.specs.Definition.{unless-refused};
+ghost use Rattle.stages.specs.Report.{verdict-of, says};
+ghost use Rattle.gii.specs.NumbersDefinition.{unsettled-stage, stage-of, result-number, line-numbers};
 ghost use Rattle.gii.specs.NumbersDefinition.{head-numbers, listed, filled};
 use profile::Answer;
 use profile::Refusal;
@@ -13,9 +14,9 @@ use profile::SUBWORDS;
 use stages::report::Line;
 use stages::report::Verdict;
 
-// The numbers of a report: the stage of an 8, the last stage, the changed symbols in two bytes, high byte first, and
-// three for each of eight lines.
-pub const REPORT: usize = 28;
+// The numbers of a report: the last stage, the changed symbols in two bytes, high byte first, and three for each of
+// eight lines.
+pub const REPORT: usize = 27;
 
 fn unsettled_stage(q: Refusal) -> u8
     ensures { λ s. ⌜ s ≡ unsettled-stage q ⌝ }
@@ -35,13 +36,20 @@ fn unsettled_stage(q: Refusal) -> u8
 }
 
 // The stage that an 8 says, 0 with any other number.
-pub fn stage_of(a: Answer) -> u8
+fn stage_of(a: Answer) -> u8
     ensures { λ s. ⌜ s ≡ stage-of a ⌝ }
 {
     match a {
         Answer::Accepted => 0,
         Answer::Refused(q) => unsettled_stage(q),
     }
+}
+
+// The number of an answer, and 256 times its stage.
+pub fn result_of(a: Answer) -> u16
+    ensures { λ n. ⌜ n ≡ result-number a ⌝ }
+{
+    a.number() as u16 + 256 * (stage_of(a) as u16)
 }
 
 // A line's numbers: 0 0 0 for clean, else 1, its count and its stage.
@@ -66,32 +74,31 @@ fn put(x: [u8; 3], k: usize, list: &mut [u8])
 }
 
 // The numbers before the lines, and zeros.
-fn head(stage: u8, last: u8, changed: u16) -> [u8; REPORT]
-    ensures { λ r. ⌜ take 4 r ≡ head-numbers stage last changed ⌝ }
+fn head(last: u8, changed: u16) -> [u8; REPORT]
+    ensures { λ r. ⌜ take 3 r ≡ head-numbers last changed ⌝ }
 {
     let mut list = [0u8; REPORT];
-    list[0] = stage;
-    list[1] = last;
-    list[2] = (changed / 256) as u8;
-    list[3] = (changed % 256) as u8;
+    list[0] = last;
+    list[1] = (changed / 256) as u8;
+    list[2] = (changed % 256) as u8;
     list
 }
 
-// All numbers of a report, and the stage of an 8.
-pub fn list_of(stage: u8, last: u8, changed: u16, lines: [Line; SUBWORDS]) -> [u8; REPORT]
-    ensures { λ r. ⌜ r ≡ listed stage last changed (says lines) ⌝ }
+// All numbers of a report.
+pub fn list_of(last: u8, changed: u16, lines: [Line; SUBWORDS]) -> [u8; REPORT]
+    ensures { λ r. ⌜ r ≡ listed last changed (says lines) ⌝ }
 {
-    let mut list = head(stage, last, changed);
+    let mut list = head(last, changed);
     let mut i: usize = 0;
     while i < SUBWORDS {
-        put(line_numbers(lines[i]), 4 + 3 * i, &mut list);
+        put(line_numbers(lines[i]), 3 + 3 * i, &mut list);
         i = i + 1;
     }
     list
 }
 
 // Copies as much as there is room for; bytes past that keep their value.
-pub fn fill(list: &[u8], to: &mut [u8])
+fn fill(list: &[u8], to: &mut [u8])
     ensures { λ _. ⌜ now (to .exit) ≡ filled (now (list .entry)) (now (to .entry)) ⌝ }
 {
     let mut i: usize = 0;
@@ -102,4 +109,15 @@ pub fn fill(list: &[u8], to: &mut [u8])
         to[i] = list[i];
         i = i + 1;
     }
+}
+
+// Copies them if the answer is no refusal, which leaves every byte.
+pub fn fill_if(a: Answer, list: &[u8], to: &mut [u8])
+    ensures { λ _. ⌜ now (to .exit) ≡
+        unless-refused a (filled (now (list .entry)) (now (to .entry))) (now (to .entry)) ⌝ }
+{
+    if a.number() != 0 {
+        return;
+    }
+    fill(list, to);
 }

@@ -7,11 +7,12 @@
 -- (agreement); 49 coefficients hold every polynomial of a run of at most 48 syndromes (fits).
 use Prim.Native.Nat.{ℕ, _+_, _≤_, _<_}
 use mathlib.Core.Path.{_≡_, refl, sym, ap, _∙_, subst}
+use mathlib.Core.Logic.{_≢_}
 use mathlib.Core.Bool.{Bool, cond}
 use mathlib.Core.List.{List}
 use native.Mathlib.Omega.{arith}
 use lib.ListN.{length}
-use Rattle.field.specs.Field.{F, 𝟏, _⊙_, isZero}
+use Rattle.field.specs.Field.{F, 𝟎, 𝟏, _⊙_, isZero, ⊙-nonzero}
 use Rattle.series.specs.Series.{Series, K-⊠-at}
 use Rattle.series.specs.Degree.{below, below-weaken, below-K-⊠}
 use Rattle.series.specs.Word.{entry}
@@ -22,7 +23,7 @@ use Rattle.key_equation.specs.Scaled as Scaled
 use Rattle.key_equation.specs.Run.{Factors, plain, lookahead, scaled, run, iterations, so-far, joined}
 use Rattle.key_equation.specs.Run.{measure, measure-swapped, factors}
 use Rattle.key_equation.specs.Claim.{PlainAgrees, LookaheadAgrees, ScaledAgrees, Agreed, lookahead-is, scaled-is}
-use Rattle.key_equation.specs.Ahead.{ahead-below}
+use Rattle.key_equation.specs.Ahead.{ahead-below, or-one-nonzero}
 use Rattle.key_equation.specs.LookaheadStep as LookaheadStep
 use Rattle.key_equation.specs.ScaledStep as ScaledStep
 use Rattle.key_equation.specs.Measure.{factors-nonzero, measure-below}
@@ -129,8 +130,10 @@ module _ (rounds : List (List F)) (k : ℕ) where
     swaps = scaled-swapped;
     k = ap (λ t. t .k) scaled-run;
     L = ap (λ t. len r (t .k)) scaled-run;
-    a≢0 = factors-nonzero (entry (joined rounds)) r .0;
-    b≢0 = factors-nonzero (entry (joined rounds)) r .1;
+    a≢0 = a≢0;
+    b≢0 = b≢0;
+    aS≢0 = ⊙-nonzero _ _ a≢0 (or-one-nonzero (S r));
+    bS≢0 = ⊙-nonzero _ _ b≢0 (or-one-nonzero (S r));
     Λ = ap (λ t. t .Λ) scaled-run;
     B = ap (λ t. t .B) scaled-run;
     γ′ = ap (λ t. t .γ′) scaled-run;
@@ -143,6 +146,12 @@ module _ (rounds : List (List F)) (k : ℕ) where
     ξS = held (λ t. t .ξS ≡ t .g ⊙ t .ξ) refl;
   }
     where
+      a≢0 : x .a ≢ 𝟎
+      a≢0 = factors-nonzero (entry (joined rounds)) r .0
+
+      b≢0 : x .b ≢ 𝟎
+      b≢0 = factors-nonzero (entry (joined rounds)) r .1
+
       held : (P : Scaled.State → Type 0) → P (scaled-is r S m x) → P (run scaled rounds k .state)
       held P h = subst P (sym scaled-run) h
 
@@ -152,7 +161,8 @@ module _ (rounds : List (List F)) (k : ℕ) where
 --   the measure's Λ, B and γ               Λ, B and γ of in-plain and in-lookahead
 --   ahead: Δ and Θ as 8.7 says             Δ and Θ of in-lookahead
 --   ahead: the held scalars                γS, δS, θS, g1, g2, h1, h2 of in-lookahead
---   scaled: Λ and B with factors, γ'       a≢0, b≢0, Λ, B and γ′ of in-scaled
+--   scaled: Λ and B with factors, γ'       Λ, B and γ′ of in-scaled
+--   scaled: no factor is zero              a≢0, b≢0, aS≢0, bS≢0 of in-scaled
 --   scaled: Δ and Θ with factors           Δ and Θ of in-scaled
 --   scaled: the held scalars               g, ρ, ξ, ρS, ξS of in-scaled
 --

@@ -62,9 +62,11 @@ pub record ScaledAgrees (r : ℕ) (S : Series) (m : Plain.State) (x : Factors) (
   -- it has the measure's k and L
   pub k : p .state .k ≡ m .k
   pub L : len r (p .state .k) ≡ len r (m .k)
-  -- neither factor is zero
+  -- neither a nor b is zero, and neither a × S'_r nor b × S'_r is
   pub a≢0 : x .a ≢ 𝟎
   pub b≢0 : x .b ≢ 𝟎
+  pub aS≢0 : x .a ⊙ or-one (S r) ≢ 𝟎
+  pub bS≢0 : x .b ⊙ or-one (S r) ≢ 𝟎
   -- a × S'_r and b × S'_r are the factors of Λ and B, and γ' is b × γ
   pub Λ : p .state .Λ ≡ K (x .a ⊙ or-one (S r)) ⊠ m .Λ
   pub B : p .state .B ≡ K (x .b ⊙ or-one (S r)) ⊠ m .B

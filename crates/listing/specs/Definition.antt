@@ -8,6 +8,8 @@
 --   card-line q            the card was refused by the number q
 --   Printed x l n m        the text x was printed into an array that was l: it has n bytes, and the array is m now,
 --                          with the bytes behind the text as they were
+--   Appended a x l n m     the text x was appended to the first a bytes of an array that was l, as far as it has room:
+--                          all of it has n bytes, and the array is m now
 use Prim.Native.Nat.{ℕ, zero, suc, _+_, _/_, _%_}
 use Prim.Native.Char.{code}
 use Prim.Native.String.{String, [] as none, _∷_ as _and_}
@@ -15,7 +17,7 @@ use mathlib.Core.Path.{_≡_}
 use mathlib.Core.Bool.{cond}
 use mathlib.Core.List.{List, [], _∷_, _++_}
 use lib.Dec.{ltb}
-use lib.ListN.{length, drop}
+use lib.ListN.{length, take, drop}
 
 abbrev pub ascii : String → List ℕ
 ascii none = []
@@ -53,3 +55,7 @@ card-line q = ascii "card refused " ++ decimal q ++ ascii "\n"
 pub record Printed (x l : List ℕ) (n : ℕ) (m : List ℕ) : Type 0 where
   pub size : n ≡ length x
   pub says : m ≡ x ++ drop n l
+
+pub record Appended (a : ℕ) (x l : List ℕ) (n : ℕ) (m : List ℕ) : Type 0 where
+  pub long : length m ≡ length l
+  pub printed : Printed (take (length l) (take a l ++ x)) l n m

@@ -1,56 +1,21 @@
 // The lines of the printed list, each written into the first bytes of an array that is lent. What the promises speak of
 // stands in specs/Definition.antt.
-ghost use Prim.Native.Nat.{_+_, _≤_, _<_};
-ghost use mathlib.Core.List.{[], _∷_, _++_};
-ghost use lib.ListN.{length};
-ghost use Rattle.listing.specs.Definition.{glyph, decimal, blocks-line, ok-line};
-ghost use Rattle.listing.specs.Definition.{refused-line, card-line, Printed};
-ghost use Rattle.listing.specs.Laws.{Put};
+pub mod text;
+
+ghost use mathlib.Core.List.{_++_};
+ghost use Rattle.listing.specs.Definition.{decimal, blocks-line, ok-line, refused-line, card-line};
+ghost use Rattle.listing.specs.Definition.{Appended, Printed};
+use crate::text::digits;
+use crate::text::put;
 
 // Room for a line, the longest of which has 21 bytes.
 pub const LINE: usize = 32;
 
-// Writes a text from `at` on, and answers where it ends.
-fn put(line: &mut [u8], at: usize, text: &[u8]) -> usize
-    requires { ⌜ at + length (now text) ≤ length (now line) ⌝ }
-    ensures { λ r. ⌜ Put at (now (text .entry)) (now (line .entry)) r (now (line .exit)) ⌝ }
-{
-    let mut i: usize = 0;
-    while i < text.len() {
-        line[at + i] = text[i];
-        i += 1;
-    }
-    at + text.len()
-}
-
-// Writes a digit.
-fn digit(line: &mut [u8], at: usize, d: u8) -> usize
-    requires { ⌜ (at < length (now line)) × (d < 10) ⌝ }
-    ensures { λ r. ⌜ Put at (glyph d ∷ []) (now (line .entry)) r (now (line .exit)) ⌝ }
-{
-    line[at] = 48 + d;
-    at + 1
-}
-
-// Writes the digits of a number: what stands before the last one is a number too.
-fn digits(line: &mut [u8], at: usize, n: u16) -> usize
-    requires { ⌜ at + length (decimal n) ≤ length (now line) ⌝ }
-    ensures { λ r. ⌜ Put at (decimal n) (now (line .entry)) r (now (line .exit)) ⌝ }
-{
-    if n < 10 {
-        return digit(line, at, n as u8);
-    }
-    let end = digits(line, at, n / 10);
-    digit(line, end, (n % 10) as u8)
-}
-
-// Writes a number, which has at most five digits, and a text behind it.
+// Appends a number, and a text behind it.
 fn field(line: &mut [u8], at: usize, n: u16, text: &[u8]) -> usize
-    requires { ⌜ at + 5 + length (now text) ≤ length (now line) ⌝ }
-    ensures text { λ r. ⌜ Put at (decimal n ++ now (text .entry)) (now (line .entry)) r (now (line .exit)) ⌝ }
-    ensures short { λ r. ⌜ r ≤ at + 5 + length (now (text .entry)) ⌝ }
+    ensures { λ r. ⌜ Appended at (decimal n ++ now (text .entry)) (now (line .entry)) r (now (line .exit)) ⌝ }
 {
-    let end = digits(line, at, n);
+    let end = digits(line, at, n as usize);
     put(line, end, text)
 }
 

@@ -4,11 +4,13 @@
 --   last p           t_v
 --   answer-of a      the answer alone
 --   number-of q      the number of a refusal; answer-number a: 0, or that of the refusal
+--   unless-refused a x o   x, or o if the answer a is a refusal
 --   checks p i       the check symbols of subword i
 --   block-size p, data-size p   the symbols and the data symbols of a block
 --   data-start p i   the data symbols before subword i
 use Prim.Native.Nat.{ℕ, zero, suc, _+_, _-_, _*_}
 use mathlib.Core.Bool.{cond}
+use mathlib.Core.List.{List}
 use lib.Dec.{ltb}
 use lib.ListN.{length}
 use Rattle.profile.specs.declared.Profile.{Profile}
@@ -52,6 +54,11 @@ number-of Subword = 10
 abbrev pub answer-number : Answer → ℕ
 answer-number answer.Accepted = 0
 answer-number (answer.Refused q) = number-of q
+
+-- FORMAT 4.1: what a buffer holds in the end, x being what an accepted call gives, and o what it held
+abbrev pub unless-refused : Answer → List ℕ → List ℕ → List ℕ
+unless-refused answer.Accepted x o = x
+unless-refused (answer.Refused q) x o = o
 
 -- ---- sizes
 

@@ -28,7 +28,7 @@ pub record Within (p : Profile) (s i : ℕ) : Type 0 where
 
 pub fetching-below : (b : List ℕ) (s i : ℕ) (p : Profile) → fetching b s i ≡ Accepted p → i < p .subwords
 fetching-below b s i p e =
-    let (same, (_, (_, (_, (_, (_, (_, (_, (_, (below, _)))))))))) = asked-yes Fetch (lent b s 0 i) (read b) p e in
+    let (same, (_, (_, (_, (_, (_, (_, (_, (_, (_, (below, _))))))))))) = asked-yes Fetch (lent b s 0 i) (read b) p e in
     subst (λ q. i < q .subwords) same (ltb-true i (read b .subwords) below)
 
 -- n is a byte

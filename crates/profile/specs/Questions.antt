@@ -8,8 +8,8 @@
 --   admitted c b d o i the profile of the bytes b for the caller c, with an input of d bytes, an output of o bytes and
 --                      the subword i, or the first question that says no
 --   profile-of b       .. by itself: what a card asks
---   writing b d o, reading-of b d o, fetching b d i    .. for a block that is written, that is read, that is
---                                                      fetched from
+--   writing b d o, reading-of b d o, fetching b d i, extracting b d o    .. for a block that is written, that is
+--                                                      read, that is fetched from, of which the data are read
 use Prim.Native.Nat.{ℕ, zero, suc, _*_}
 use mathlib.Core.Bool.{Bool, true, false, cond, _&&_, _||_}
 use mathlib.Core.List.{List, [], _∷_}
@@ -22,7 +22,7 @@ use Rattle.profile.specs.declared.Refusal.the-variants.{InputSize, Outpu
 use Rattle.profile.specs.declared.Parsed.{Parsed}
 use Rattle.profile.specs.declared.Parsed.the-variants.{Accepted, Refused}
 use Rattle.profile.specs.declared.questions.Caller.{Caller}
-use Rattle.profile.specs.declared.questions.Caller.the-variants.{Encoder, Decoder, Fetch, Card}
+use Rattle.profile.specs.declared.questions.Caller.the-variants.{Encoder, Decoder, Fetch, Extract, Card}
 use Rattle.profile.specs.declared.questions.Lent.{Lent}
 use Rattle.profile.specs.Definition.{capability, last, block-size, data-size}
 
@@ -35,19 +35,29 @@ abbrev pub encodes : Caller → Bool
 encodes Encoder = true
 encodes Decoder = false
 encodes Fetch = false
+encodes Extract = false
 encodes Card = false
 
 abbrev pub decodes : Caller → Bool
 decodes Encoder = false
 decodes Decoder = true
 decodes Fetch = false
+decodes Extract = false
 decodes Card = false
 
 abbrev pub fetches : Caller → Bool
 fetches Encoder = false
 fetches Decoder = false
 fetches Fetch = true
+fetches Extract = false
 fetches Card = false
+
+abbrev pub extracts : Caller → Bool
+extracts Encoder = false
+extracts Decoder = false
+extracts Fetch = false
+extracts Extract = true
+extracts Card = false
 
 -- ---- the questions
 
@@ -102,18 +112,21 @@ input-data = record { asks = encodes; good = λ l p. eqb (l .input) (data-size p
 
 abbrev pub input-block : Question
 input-block = record {
-  asks = λ c. decodes c || fetches c;
+  asks = λ c. (decodes c || fetches c) || extracts c;
   good = λ l p. eqb (l .input) (block-size p);
   refusal = InputSize;
 }
 
--- FORMAT 4.8: the output is a block long
+-- FORMAT 4.8: the output is as long as it has to be: a block, or the data of one
 abbrev pub output-block : Question
 output-block = record {
   asks = λ c. encodes c || decodes c;
   good = λ l p. eqb (l .output) (block-size p);
   refusal = OutputSize;
 }
+
+abbrev pub output-data : Question
+output-data = record { asks = extracts; good = λ l p. eqb (l .output) (data-size p); refusal = OutputSize }
 
 -- FORMAT 4.11: the number of the subword is below m
 abbrev pub subword-below : Question
@@ -131,6 +144,7 @@ questions =
     ∷ input-data
     ∷ input-block
     ∷ output-block
+    ∷ output-data
     ∷ subword-below
     ∷ []
 
@@ -184,3 +198,6 @@ reading-of b d o = admitted Decoder b d o 0
 
 abbrev pub fetching : List ℕ → (input subword : ℕ) → Parsed
 fetching b d i = admitted Fetch b d 0 i
+
+abbrev pub extracting : List ℕ → (input output : ℕ) → Parsed
+extracting b d o = admitted Extract b d o 0

@@ -4,10 +4,10 @@
 --   Passes c l p qs    all of the questions qs do so
 --
 -- Proved: who is admitted passes every question, and the profile is the one that was asked about (asked-yes); whoever
--- passes every question is admitted (asked-all); the profile that is admitted for any caller is admitted by itself
--- (admitted-profile).
+-- passes every question is admitted (asked-all); how the questions are put in their order (asked-in-order, next); the
+-- profile that is admitted for any caller is admitted by itself (admitted-profile).
 use Prim.Native.Nat.{ℕ}
-use mathlib.Core.Path.{_≡_, refl, ap, _∙_}
+use mathlib.Core.Path.{_≡_, refl, ap, ap₂, _∙_}
 use mathlib.Core.Bool.{Bool, true, false, cond, _||_}
 use mathlib.Core.List.{List, [], _∷_}
 use native.Mathlib.Omega.{arith}
@@ -23,7 +23,7 @@ use Rattle.profile.specs.declared.questions.Caller.the-variants.{Card}
 use Rattle.profile.specs.declared.questions.Lent.{Lent}
 use Rattle.profile.specs.Definition.{block-size, data-size}
 use Rattle.profile.specs.Questions.{Question, questions, put, put-all, asked, read, admitted, profile-of}
-use Rattle.profile.specs.Questions.{lent, encodes, decodes, fetches, good-subwords, good-nested}
+use Rattle.profile.specs.Questions.{lent, encodes, decodes, fetches, extracts, good-subwords, good-nested}
 use Rattle.profile.specs.Questions.{good-capabilities, good-length}
 
 abbrev pub passes : Caller → Lent → Profile → Question → Bool
@@ -65,17 +65,24 @@ module _ (c : Caller) (l : Lent) (p : Profile) where
   unfolding asked
   asked-all h = all-passed questions h
 
+-- one question more: b is what was answered, by other names for who asks it and for what is good
+pub next : {a b before : Parsed} {s t g h : Bool} (q : Refusal)
+    → b ≡ put s g q a → s ≡ t → g ≡ h → a ≡ before → b ≡ put t h q before
+next {a} {b} {before} {s} {t} {g} {h} q e asks good earlier =
+    e ∙ ap₂ (λ s g. put s g q a) asks good ∙ ap (put t h q) earlier
+
 -- the questions as they are put, one after the other
 pub asked-in-order : (c : Caller) (l : Lent) (p : Profile) → asked c l p ≡
     put (fetches c) (ltb (l .subword) (p .subwords)) Subword
+    (put (extracts c) (eqb (l .output) (data-size p)) OutputSize
     (put (encodes c || decodes c) (eqb (l .output) (block-size p)) OutputSize
-    (put (decodes c || fetches c) (eqb (l .input) (block-size p)) InputSize
+    (put ((decodes c || fetches c) || extracts c) (eqb (l .input) (block-size p)) InputSize
     (put (encodes c) (eqb (l .input) (data-size p)) InputSize
     (put true (good-length p) Length
     (put true (good-capabilities p) Capabilities
     (put true (good-nested p) Nested
     (put true (good-subwords p) Subwords
-    (put true (eqb (l .profile) 7) ProfileSize (Accepted p)))))))))
+    (put true (eqb (l .profile) 7) ProfileSize (Accepted p))))))))))
 unfolding asked
 asked-in-order c l p = refl
 
@@ -86,5 +93,5 @@ module _ (c : Caller) (b : List ℕ) (d o i : ℕ) (p : Profile) where
   pub admitted-profile : admitted c b d o i ≡ Accepted p → profile-of b ≡ Accepted p
   admitted-profile e =
       let (same, (y1, (y2, (y3, (y4, (y5, _)))))) = asked-yes c (lent b d o i) (read b) p e in
-      asked-all Card (lent b 0 0 0) (read b) (y1, (y2, (y3, (y4, (y5, (refl, (refl, (refl, (refl, tt)))))))))
+      asked-all Card (lent b 0 0 0) (read b) (y1, (y2, (y3, (y4, (y5, (refl, (refl, (refl, (refl, (refl, tt))))))))))
       ∙ ap Accepted same

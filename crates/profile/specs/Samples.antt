@@ -7,7 +7,7 @@ use mathlib.Core.List.{List, [], _∷_, map}
 use Rattle.profile.specs.declared.Refusal.the-variants.{Capabilities, Length}
 use Rattle.profile.specs.declared.Parsed.the-variants.{Accepted, Refused}
 use Rattle.profile.specs.declared.questions.Caller.{Caller}
-use Rattle.profile.specs.declared.questions.Caller.the-variants.{Encoder, Decoder, Fetch, Card}
+use Rattle.profile.specs.declared.questions.Caller.the-variants.{Encoder, Decoder, Fetch, Extract, Card}
 use Rattle.profile.specs.Definition.{number-of, data-size}
 use Rattle.profile.specs.Questions.{questions-of, asked, read, profile-of}
 
@@ -46,6 +46,9 @@ decoder-asks = refl
 
 fetch-asks : numbers Fetch ≡ 1 ∷ 2 ∷ 3 ∷ 4 ∷ 5 ∷ 6 ∷ 10 ∷ []
 fetch-asks = refl
+
+extract-asks : numbers Extract ≡ 1 ∷ 2 ∷ 3 ∷ 4 ∷ 5 ∷ 6 ∷ 7 ∷ []
+extract-asks = refl
 
 card-asks : numbers Card ≡ 1 ∷ 2 ∷ 3 ∷ 4 ∷ 5 ∷ []
 card-asks = refl

@@ -2,10 +2,10 @@
 --
 --   Valid p    the profile p passes questions 2 to 5
 --
--- Proved: a profile that is admitted is valid, and the sizes are right (writing-passed, reading-passed;
--- reading-admitted says the converse); capabilities rise, to 24 at most; subwords with a smaller number have more check
--- symbols, each has at least 2 t0, at most 48 and fewer than n; the data size counts the data positions, so data
--- symbols have numbers below it.
+-- Proved: a profile that is admitted is valid, and the sizes are right (writing-passed, reading-passed,
+-- extracting-passed; writing-admitted, reading-admitted and extracting-admitted say the converse); capabilities rise,
+-- to 24 at most; subwords with a smaller number have more check symbols, each has at least 2 t0, at most 48 and fewer
+-- than n; the data size counts the data positions, so data symbols have numbers below it.
 use Prim.Native.Nat.{ℕ, zero, suc, _+_, _-_, _*_, _≤_, _<_}
 use mathlib.Core.Path.{_≡_, refl, sym, ap, _∙_, subst}
 use mathlib.Core.Bool.{Bool, true, false, cond, and-eq-true-iff}
@@ -19,11 +19,11 @@ use lib.ListN.{getD}
 use Rattle.profile.specs.declared.Profile.{Profile}
 use Rattle.profile.specs.declared.Parsed.the-variants.{Accepted}
 use Rattle.profile.specs.declared.questions.Caller.{Caller}
-use Rattle.profile.specs.declared.questions.Caller.the-variants.{Encoder, Decoder, Card}
+use Rattle.profile.specs.declared.questions.Caller.the-variants.{Encoder, Decoder, Extract, Card}
 use Rattle.profile.specs.declared.questions.Lent.{Lent}
 use Rattle.profile.specs.Definition.{capability, last, checks, capability-sum, block-size, data-size, data-start}
 use Rattle.profile.specs.Questions.{good-step, good-capabilities, asked, read, lent, admitted}
-use Rattle.profile.specs.Questions.{profile-of, writing, reading-of}
+use Rattle.profile.specs.Questions.{profile-of, writing, reading-of, extracting}
 use Rattle.profile.specs.QuestionsLaws.{asked-yes, asked-all}
 
 pub record Valid (p : Profile) : Type 0 where
@@ -109,16 +109,45 @@ module _ (b : List ℕ) (d o : ℕ) (p : Profile) where
         eqb-true o (block-size (read b)) output ∙ ap block-size same,
       )
 
-  -- the sizes are right
-  pub reading-admitted : profile-of b ≡ Accepted p → d ≡ block-size p → o ≡ block-size p → reading-of b d o ≡ Accepted p
-  reading-admitted e input output =
-      let (same, (y1, (y2, (y3, (y4, (y5, _)))))) = asked-yes Card (lent b 0 0 0) (read b) p e in
-      let block = ap block-size same in
-      asked-all Decoder (lent b d o 0) (read b) (
-        y1,
-        (y2, (y3, (y4, (y5, (refl, (eq-eqb _ _ (input ∙ sym block), (eq-eqb _ _ (output ∙ sym block), (refl, tt)))))))),
+  pub extracting-passed : extracting b d o ≡ Accepted p → p .length ≤ 255
+      → Valid p × (d ≡ block-size p) × (o ≡ data-size p)
+  extracting-passed e small =
+      let (same, (_, (_, (_, (_, (_, (_, (input, (_, (output, _)))))))))) =
+      asked-yes Extract (lent b d o 0) (read b) p e in
+      let valid = asked-valid Extract (lent b d o 0) (read b) p e (rw (ap (λ q. q .length) same) small) in (
+        valid,
+        eqb-true d (block-size (read b)) input ∙ ap block-size same,
+        eqb-true o (data-size (read b)) output ∙ ap data-size same,
       )
-      ∙ ap Accepted same
+
+  -- the sizes are right
+  module _ (accepted : profile-of b ≡ Accepted p) where
+    pub writing-admitted : d ≡ data-size p → o ≡ block-size p → writing b d o ≡ Accepted p
+    writing-admitted input output =
+        let (same, (y1, (y2, (y3, (y4, (y5, _)))))) = asked-yes Card (lent b 0 0 0) (read b) p accepted in
+        let in-size = eq-eqb _ _ (input ∙ sym (ap data-size same)) in
+        let out-size = eq-eqb _ _ (output ∙ sym (ap block-size same)) in
+        asked-all Encoder (lent b d o 0) (read b)
+        (y1, (y2, (y3, (y4, (y5, (in-size, (refl, (out-size, (refl, (refl, tt))))))))))
+        ∙ ap Accepted same
+
+    pub reading-admitted : d ≡ block-size p → o ≡ block-size p → reading-of b d o ≡ Accepted p
+    reading-admitted input output =
+        let (same, (y1, (y2, (y3, (y4, (y5, _)))))) = asked-yes Card (lent b 0 0 0) (read b) p accepted in
+        let in-size = eq-eqb _ _ (input ∙ sym (ap block-size same)) in
+        let out-size = eq-eqb _ _ (output ∙ sym (ap block-size same)) in
+        asked-all Decoder (lent b d o 0) (read b)
+        (y1, (y2, (y3, (y4, (y5, (refl, (in-size, (out-size, (refl, (refl, tt))))))))))
+        ∙ ap Accepted same
+
+    pub extracting-admitted : d ≡ block-size p → o ≡ data-size p → extracting b d o ≡ Accepted p
+    extracting-admitted input output =
+        let (same, (y1, (y2, (y3, (y4, (y5, _)))))) = asked-yes Card (lent b 0 0 0) (read b) p accepted in
+        let in-size = eq-eqb _ _ (input ∙ sym (ap block-size same)) in
+        let out-size = eq-eqb _ _ (output ∙ sym (ap data-size same)) in
+        asked-all Extract (lent b d o 0) (read b)
+        (y1, (y2, (y3, (y4, (y5, (refl, (in-size, (refl, (out-size, (refl, tt))))))))))
+        ∙ ap Accepted same
 
 -- byte 2 of a profile is the length
 pub admitted-valid : (c : Caller) (b : List ℕ) (d o i : ℕ) (q : Profile)

@@ -22,7 +22,7 @@ pub fn answer(profile: &[u8], block: &[u8], i: usize) -> Answer
 }
 
 // The data positions of subword i, as a part of the block.
-fn positions<'a>(p: Profile, block: &'a [u8], i: usize) -> &'a [u8]
+pub fn positions<'a>(p: Profile, block: &'a [u8], i: usize) -> &'a [u8]
     requires { ⌜ Within p (length (now block)) i ⌝ }
     ensures { λ r. ⌜ now r ≡ Part (Parsed.Accepted p) i (now (block .entry)) ⌝ }
     ensures some { λ r. ⌜ empty (now r) ≡ false ⌝ }

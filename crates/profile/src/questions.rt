@@ -6,7 +6,7 @@ ghost use lib.Dec.{leb, eqb};
 ghost use lib.ListN.{getD};
 ghost use Rattle.profile.specs.Definition.{last as Last};
 ghost use Rattle.profile.specs.Questions.{put, read as Read, encodes as Encodes, decodes as Decodes};
-ghost use Rattle.profile.specs.Questions.{fetches as Fetches, good-subwords, good-nested};
+ghost use Rattle.profile.specs.Questions.{fetches as Fetches, extracts as Extracts, good-subwords, good-nested};
 ghost use Rattle.profile.specs.Questions.{good-capabilities, good-length, asked, admitted};
 use crate::Parsed;
 use crate::Profile;
@@ -17,6 +17,7 @@ pub enum Caller {
     Encoder,
     Decoder,
     Fetch,
+    Extract,
     Card,
 }
 
@@ -37,6 +38,7 @@ fn encodes(c: Caller) -> bool
         Caller::Encoder => true,
         Caller::Decoder => false,
         Caller::Fetch => false,
+        Caller::Extract => false,
         Caller::Card => false,
     }
 }
@@ -49,6 +51,7 @@ fn decodes(c: Caller) -> bool
         Caller::Encoder => false,
         Caller::Decoder => true,
         Caller::Fetch => false,
+        Caller::Extract => false,
         Caller::Card => false,
     }
 }
@@ -61,6 +64,20 @@ fn fetches(c: Caller) -> bool
         Caller::Encoder => false,
         Caller::Decoder => false,
         Caller::Fetch => true,
+        Caller::Extract => false,
+        Caller::Card => false,
+    }
+}
+
+// Whether the caller reads the data of a block.
+fn extracts(c: Caller) -> bool
+    ensures { λ b. ⌜ b ≡ Extracts c ⌝ }
+{
+    match c {
+        Caller::Encoder => false,
+        Caller::Decoder => false,
+        Caller::Fetch => false,
+        Caller::Extract => true,
         Caller::Card => false,
     }
 }
@@ -159,17 +176,20 @@ pub fn judge(caller: Caller, l: Lent, p: Profile) -> Parsed
     let e = encodes(caller);
     let d = decodes(caller);
     let f = fetches(caller);
+    let x = extracts(caller);
     let size = p.block_size();
+    let payload = p.data_size();
     let a0 = Parsed::Accepted(p);
     let a1 = ask(a0, true, l.profile == 7, Refusal::ProfileSize);
     let a2 = ask(a1, true, subwords(p), Refusal::Subwords);
     let a3 = ask(a2, true, nested(p), Refusal::Nested);
     let a4 = ask(a3, true, capabilities(p), Refusal::Capabilities);
     let a5 = ask(a4, true, length(p), Refusal::Length);
-    let a6 = ask(a5, e, l.input == p.data_size(), Refusal::InputSize);
-    let a7 = ask(a6, d | f, l.input == size, Refusal::InputSize);
+    let a6 = ask(a5, e, l.input == payload, Refusal::InputSize);
+    let a7 = ask(a6, d | f | x, l.input == size, Refusal::InputSize);
     let a8 = ask(a7, e | d, l.output == size, Refusal::OutputSize);
-    ask(a8, f, l.subword < p.subwords as usize, Refusal::Subword)
+    let a9 = ask(a8, x, l.output == payload, Refusal::OutputSize);
+    ask(a9, f, l.subword < p.subwords as usize, Refusal::Subword)
 }
 
 // Gives byte i, 0 where there is none.

@@ -1,7 +1,5 @@
 -- What a solver has found at the end of a list of rounds, the first n syndromes of S.
 --
---   Λ-in f m   Λ of a state of the form f
---
 -- Proved: its Λ is a multiple of the measure's (ended-locator), and its length is the measure's (ended-length).
 use Prim.Native.Nat.{ℕ}
 use mathlib.Core.Path.{_≡_, sym, ap, ap₂, _∙_}
@@ -23,13 +21,8 @@ use Rattle.settling.specs.Candidate.{Multiple}
 use Rattle.solver.specs.declared.Form.{Form}
 use Rattle.solver.specs.declared.Form.the-variants.{Plain, Lookahead, Scaled}
 use Rattle.solver.specs.declared.Solver.{Solver}
-use Rattle.solver.specs.Solver.{form-of, Is, k-in}
+use Rattle.solver.specs.Solver.{form-of, Is, k-in, Λ-in}
 use Rattle.solver.specs.ContinuationDefinition.{Ended}
-
-abbrev pub Λ-in : (f : Form) → form-of f .State → Series
-Λ-in Plain m = m .Λ
-Λ-in Lookahead m = m .Λ
-Λ-in Scaled m = m .Λ
 
 -- ---- the measure over the rounds
 
@@ -58,15 +51,13 @@ module _ (rounds : List (List F)) where
     module _ (f : Form) (s : Solver) (ended : Ended f rounds s) where
       pub ended-locator : (l : Series) → ((r : ℕ) (f : Form) (m : form-of f .State) → Is f r s m → l ≡ Λ-in f m)
           → Multiple l (measure S n .Λ)
-      unfolding Ended
       ended-locator l is =
           let (a, a≢0, e) = Λ-end f in
-          (a, a≢0, is _ f _ ended ∙ e ∙ ap (λ m. K a ⊠ m .Λ) m-is)
+          (a, a≢0, is _ f _ (ended .is) ∙ e ∙ ap (λ m. K a ⊠ m .Λ) m-is)
 
       pub ended-length : (l : ℕ) → ((r : ℕ) (f : Form) (m : form-of f .State) → Is f r s m → k-of r l ≡ k-in f m)
           → l ≡ Shortest.length S n
-      unfolding Ended
-      ended-length l is = ap mag (sym (len-of r l) ∙ ap (len r) (is r f _ ended ∙ k-end f) ∙ long)
+      ended-length l is = ap mag (sym (len-of r l) ∙ ap (len r) (is r f _ (ended .is) ∙ k-end f) ∙ long)
         where
           r : ℕ
           r = length (joined rounds)

@@ -2,8 +2,8 @@
 --
 -- Proved, for a valid profile: a solver at its start, taken through the first round, is at the end of stage 0
 -- (stage-first); one at the end of stage r, taken through the next round, is at the end of stage r + 1 (stage-next).
--- What it has found there, `locator` promises and End has, n being 2 t_r: the rounds are the row below that
--- (rounds-joined of staged_decoding).
+-- What it has found there, ContinuationEnd has, n being 2 t_r: the rounds are the row below that (rounds-joined of
+-- staged_decoding).
 use Prim.Native.Nat.{ℕ, suc, _*_, _<_}
 use mathlib.Core.Path.{refl, subst}
 use mathlib.Core.List.{[]}
@@ -20,14 +20,14 @@ use Rattle.staged_decoding.specs.Definition.{round-of, rounds-of}
 use Rattle.staged_decoding.specs.Rounds.{rounds-joined, rounds-cong}
 use Rattle.solver.specs.declared.Form.{Form}
 use Rattle.solver.specs.declared.Solver.{Solver}
-use Rattle.solver.specs.Solver.{form-of, Is}
-use Rattle.solver.specs.ContinuationDefinition.{Ended, Next, Advanced, ended-start}
+use Rattle.solver.specs.ContinuationDefinition.{Ended, Next, Advanced}
+use Rattle.solver.specs.ContinuationState.{advanced-ended}
 
 module _ (p : Profile) (ok : Valid p) (f : Form) (S : Series) (s q : Solver) where
-  pub stage-first : below (2 * capability p 0) S → Is f 0 s (form-of f .start) → Advanced 0 (2 * capability p 0) S s q
+  pub stage-first : below (2 * capability p 0) S → Ended f [] s → Advanced 0 (2 * capability p 0) S s q
       → Ended f (rounds-of p S 0) q
   unfolding rounds-of joined word
-  stage-first past h advanced = advanced f [] (round-of p S 0) next (ended-start f s h)
+  stage-first past ended advanced = advanced-ended [] (round-of p S 0) _ _ S next f s q advanced ended
     where
       next : Next [] (round-of p S 0) 0 (2 * capability p 0) S
       next = record {
@@ -44,7 +44,7 @@ module _ (p : Profile) (ok : Valid p) (f : Form) (S : Series) (s q : Solver) whe
       → Ended f (rounds-of p S (suc r)) q
   unfolding rounds-of
   stage-next r T h past agree ended advanced =
-      advanced f (rounds-of p S r) (round-of p S (suc r)) next
+      advanced-ended (rounds-of p S r) (round-of p S (suc r)) _ _ S next f s q advanced
       (subst (λ rounds. Ended f rounds s) (rounds-cong p ok T S r (omega arith) agree) ended)
     where
       next : Next (rounds-of p S r) (round-of p S (suc r)) (2 * capability p r) (2 * capability p (suc r)) S

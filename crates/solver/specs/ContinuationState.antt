@@ -3,8 +3,8 @@
 --   state f r S       the state of the form f after r iterations over S, the syndromes so far
 --   Reached f r S s   s is a solver in the form f in this state
 --
--- Proved: from the end of the rounds before, the entry of a round reaches this state (reached-enter), its iterations
--- lead to the last one (reached-run), and that is the round's end (reached-end).
+-- Proved: from the end of the rounds before, the entry of a round and its iterations lead to the round's end
+-- (advanced-ended).
 use Prim.Native.Nat.{ℕ, zero, suc, _+_, _-_, _≤_}
 use mathlib.Core.Path.{_≡_, refl, sym, ap, ap₂, _∙_, subst}
 use mathlib.Core.List.{List, [], _∷_, _++_, append-nil}
@@ -26,8 +26,8 @@ use Rattle.key_equation.specs.Ends.{finish, finish-is, joined-append}
 use Rattle.solver.specs.declared.Form.{Form}
 use Rattle.solver.specs.declared.Form.the-variants.{Plain, Lookahead, Scaled}
 use Rattle.solver.specs.declared.Solver.{Solver}
-use Rattle.solver.specs.Solver.{form-of, state-of, Is, clip, iterate-clipped, iterated, clip-run}
-use Rattle.solver.specs.ContinuationDefinition.{Ended, Next}
+use Rattle.solver.specs.Solver.{form-of, state-of, Is, Idle, idle-kept, clip, iterate-clipped, iterated, clip-run}
+use Rattle.solver.specs.ContinuationDefinition.{Ended, Next, Advanced}
 
 -- ---- the state
 
@@ -104,12 +104,10 @@ module _ (f : Form) (rounds : List (List F)) (n : ℕ) (S : Series) (are : joine
       ∙ ap (λ k. state f k (entry (word n S))) (length-word n S)
 
   ended-reached : Ended f rounds s → Reached f n (entry (word n S)) s
-  unfolding Ended
-  ended-reached h = (h .0, ap (λ k. state-of f k s) (sym long) ∙ h .1 ∙ end)
+  ended-reached h = (h .is .0, ap (λ k. state-of f k s) (sym long) ∙ h .is .1 ∙ end)
 
-  reached-ended : Reached f n (entry (word n S)) s → Ended f rounds s
-  unfolding Ended
-  reached-ended h = (h .0, ap (λ k. state-of f k s) long ∙ h .1 ∙ sym end)
+  reached-ended : Reached f n (entry (word n S)) s → Idle f s → Ended f rounds s
+  reached-ended h idle = record { is = (h .0, ap (λ k. state-of f k s) long ∙ h .1 ∙ sym end); others = idle }
 
 entry-whole : (v : ℕ) (S : Series) → below v S → entry (word v S) ≡ S
 entry-whole v S past = word-cut v S ∙ below-cut-eq v S past
@@ -127,21 +125,7 @@ module _ (rounds : List (List F)) (round : List F) (u v : ℕ) (S : Series) (nex
         length-append (joined rounds) (joined (round ∷ [])),
       )
 
-  module _ (f : Form) (p : Solver) where
-    pub reached-enter : (s : Solver)
-        → ((f : Form) (m : form-of f .State) → Is f u s m → Is f u p (form-of f .enter u S m))
-        → Ended f rounds s → Reached f u S p
-    reached-enter s enters h = (goes .0, goes .1 ∙ state-enter f u known S (entry-word u S) none)
-      where
-        known : Series
-        known = entry (word u S)
-
-        none : known u ≡ 𝟎
-        none = entry-past (word u S) u (omega (arith, length-word u S))
-
-        goes : Is f u p (form-of f .enter u S (state f u known))
-        goes = enters f _ (ended-reached f rounds u S (next .from) s h)
-
+  module _ (f : Form) where
     -- nothing is lost, iteration after iteration
     iterated-state : (n : ℕ) → u + n ≤ v → iterated (iterate-clipped f S) u n (state f u S) ≡ state f (u + n) S
     unfolding iterated
@@ -157,18 +141,28 @@ module _ (rounds : List (List F)) (round : List F) (u v : ℕ) (S : Series) (nex
             (state-whole f (word v S) (suc (u + n)) (omega (arith, length-word v S))
             (omega (arith, length-word v S, next .few)))
 
-    pub reached-run : (s : Solver) → ((f : Form) (m : form-of f .State) → Is f u s m
-        → Is f (u + (v - u)) p (iterated (iterate-clipped f S) u (v - u) m))
-        → Reached f u S s → Reached f v S p
-    reached-run s runs h =
-        subst (λ n. Reached f n S p) at (goes .0, goes .1 ∙ iterated-state (v - u) (omega (arith, next-rising)))
+    -- the entry, then the iterations
+    through : iterated (iterate-clipped f S) u (v - u) (form-of f .enter u S (state f u (entry (word u S))))
+        ≡ state f (u + (v - u)) S
+    through =
+        ap (iterated (iterate-clipped f S) u (v - u)) (state-enter f u (entry (word u S)) S (entry-word u S) none)
+        ∙ iterated-state (v - u) (omega (arith, next-rising))
+      where
+        none : entry (word u S) u ≡ 𝟎
+        none = entry-past (word u S) u (omega (arith, length-word u S))
+
+    pub advanced-ended : (s p : Solver) → Advanced u v S s p → Ended f rounds s → Ended f (rounds ++ (round ∷ [])) p
+    advanced-ended s p advanced ended =
+        reached-ended f _ v S (next .to) p
+        (subst (λ n. Reached f n (entry (word v S)) p) at (goes .0, goes .1 ∙ through ∙ whole))
+        (idle-kept f s p (ended .is .0) (advanced .others) (ended .others))
       where
         at : u + (v - u) ≡ v
         at = omega (arith, next-rising)
 
-        goes : Is f (u + (v - u)) p (iterated (iterate-clipped f S) u (v - u) (state f u S))
-        goes = runs f _ h
+        goes : Is f (u + (v - u)) p
+            (iterated (iterate-clipped f S) u (v - u) (form-of f .enter u S (state f u (entry (word u S)))))
+        goes = advanced .is f _ (ended-reached f rounds u S (next .from) s ended)
 
-    pub reached-end : Reached f v S p → Ended f (rounds ++ (round ∷ [])) p
-    reached-end h =
-        reached-ended f _ v S (next .to) p (h .0, h .1 ∙ ap (state f v) (sym (entry-whole v S (next .past))))
+        whole : state f (u + (v - u)) S ≡ state f (u + (v - u)) (entry (word v S))
+        whole = ap (state f (u + (v - u))) (sym (entry-whole v S (next .past)))

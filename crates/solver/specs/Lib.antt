@@ -15,8 +15,9 @@ pub mod ScaledStep
 pub mod Rounds
 pub mod RoundsRun
 pub mod RoundsEvent
--- continuation: ContinuationDefinition is what the promises speak of; ContinuationState and ContinuationEnd prove them.
--- A caller cites ContinuationEnd for the length, and ContinuationStages for the stages of a subword.
+-- continuation: ContinuationDefinition is what the promises speak of, with Solver. A caller cites ContinuationState for
+-- the end of a round, ContinuationEnd for the locator and the length there, and ContinuationStages for the stages of a
+-- subword.
 pub mod ContinuationDefinition
 pub mod ContinuationState
 pub mod ContinuationEnd

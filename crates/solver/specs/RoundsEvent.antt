@@ -24,7 +24,7 @@ use Rattle.polynomial.specs.Polynomial.{row}
 use Rattle.key_equation.specs.Run.{At, outset, note, happen, iteration, entering, run}
 use Rattle.solver.specs.declared.Form.{Form}
 use Rattle.solver.specs.declared.Solver.{Solver}
-use Rattle.solver.specs.Solver.{form-of, state-of, Is, clip, clip-run}
+use Rattle.solver.specs.Solver.{form-of, state-of, Is, Kept, Fresh, Idle, idle-fresh, idle-kept, clip, clip-run}
 use Rattle.solver.specs.declared.rounds.Progress.{Progress}
 use Rattle.solver.specs.declared.rounds.Walk.{Walk}
 use Rattle.solver.specs.Rounds.{cut-rounds, length-cut, Here, here-start, here-run}
@@ -58,20 +58,22 @@ module _ (form : Form) (s : List F) (ns : List ℕ) where
 
   pub record Arrived (n : ℕ) (w : Walk) : Type 0 where
     pub in-form : w .progress .solver .form ≡ form
+    pub others : Idle form (w .progress .solver)
     pub at : Here (form-of form) s ns n (here w) (w .known) (w .entered)
     pub syndromes : row (w .syndromes) ≡ entry (take (w .known) s)
     pub long : length (w .progress .swapped) ≡ 48
 
   pub event-start : (table : List Gf) (solver : Solver) → row table ≡ entry (take 0 s)
-      → Is form 0 solver (form-of form .start)
+      → solver .form ≡ form → Fresh solver
       → Arrived 0 (record {
         progress = record { solver = solver; iterations = 0; swapped = replicate 48 false };
         syndromes = table;
         known = 0;
         entered = 0;
       })
-  event-start table solver t p = record {
-    in-form = p .0;
+  event-start table solver t e start = record {
+    in-form = e;
+    others = idle-fresh form solver start;
     at = subst (λ (q : At (form-of form)). Here (form-of form) s ns 0 q 0 0) same (here-start (form-of form) s ns);
     syndromes = t;
     long = length-replicate 48 false;
@@ -84,7 +86,7 @@ module _ (form : Form) (s : List F) (ns : List ℕ) where
 
       same : outset (form-of form)
           ≡ at-of form (take 0 s) (record { solver = solver; iterations = 0; swapped = replicate 48 false })
-      same i = record { known = take 0 s; r = 0; state = sym (p .1) i; swapped = λ j. sym (nowhere 48 j) i }
+      same i = record { known = take 0 s; r = 0; state = sym (start form) i; swapped = λ j. sym (nowhere 48 j) i }
 
   module _ (few : length s ≤ 48) (n : ℕ) (w : Walk) (t : Arrived n w) where
     abbrev p : Progress
@@ -98,6 +100,7 @@ module _ (form : Form) (s : List F) (ns : List ℕ) where
         → b ≡ form-of f .swapping (p .iterations) (row (w .syndromes)) m)
         → ((f : Form) (m : form-of f .State) → Is f (p .iterations) (p .solver) m
         → Is f (p .iterations + 1) next (clip f (form-of f .iterate (p .iterations) (row (w .syndromes)) m)))
+        → Kept (p .solver .form) (p .solver) next
         → Arrived (n + 1) (record {
           progress = record {
             solver = next;
@@ -109,8 +112,9 @@ module _ (form : Form) (s : List F) (ns : List ℕ) where
           entered = w .entered;
         })
     unfolding note
-    event-iterate l b next swaps iterates = record {
+    event-iterate l b next swaps iterates kept = record {
       in-form = goes .0;
+      others = idle-kept form (p .solver) next (t .in-form) kept (t .others);
       at = subst (λ (q : At (form-of form)). Here (form-of form) s ns (n + 1) q (w .known) (w .entered)) same now;
       syndromes = t .syndromes;
       long = length-set (p .swapped) r b ∙ t .long;
@@ -162,14 +166,16 @@ module _ (form : Form) (s : List F) (ns : List ℕ) where
         → more ≡ min (w .known + getD ns (w .entered) 0) (length s) → row table ≡ entry (take more s)
         → ((f : Form) (m : form-of f .State) → Is f (p .iterations) (p .solver) m
         → Is f (p .iterations) next (form-of f .enter (p .iterations) (row table) m))
+        → Kept (p .solver .form) (p .solver) next
         → Arrived (n + 1) (record {
           progress = record { solver = next; iterations = p .iterations; swapped = p .swapped };
           syndromes = table;
           known = more;
           entered = w .entered + 1;
         })
-    event-enter l h more table next more-is table-is enters = record {
+    event-enter l h more table next more-is table-is enters kept = record {
       in-form = goes .0;
+      others = idle-kept form (p .solver) next (t .in-form) kept (t .others);
       at = subst (λ (q : At (form-of form)). Here (form-of form) s ns (n + 1) q more (w .entered + 1)) same now;
       syndromes = table-is;
       long = t .long;
@@ -206,6 +212,7 @@ module _ (form : Form) (s : List F) (ns : List ℕ) where
     reached : (k : ℕ) → run (form-of form) (cut-rounds s ns) k ≡ here w → Ran form (cut-rounds s ns) k p
     reached k e =
         ran form (cut-rounds s ns) k p (t .in-form) (ap (λ (q : At (form-of form)). at-of form (q .known) p) e ∙ sym e)
+        (t .others)
 
     pub event-ran : (k : ℕ) → n ≡ k → Ran form (cut-rounds s ns) k p
     event-ran k e = reached k (rw (sym e) (here-run (form-of form) s ns n _ (w .known) (w .entered) (t .at)))

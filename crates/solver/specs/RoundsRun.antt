@@ -6,15 +6,16 @@
 --   Claimed f rounds k p   the agreement, FORMAT 8.15, for a run in the form f that is at p
 --   Ran f rounds k p       what `run` promises
 --
--- Proved: where the code is where the run of the definitions is, the claim holds (ran).
+-- Proved: every list of rounds with at most 48 syndromes can be lent (lent); where the code is where the run of the
+-- definitions is, the claim holds (ran).
 use Prim.Native.Nat.{ℕ, _≤_, _<_, min}
-use mathlib.Core.Path.{_≡_, sym, ap, _∙_, subst}
+use mathlib.Core.Path.{_≡_, refl, sym, ap, ap₂, _∙_, subst}
 use mathlib.Core.Bool.{false}
-use mathlib.Core.List.{List, map}
+use mathlib.Core.List.{List, [], _∷_, map}
 use native.Mathlib.Omega.{arith}
 use lib.ListN.{length, getD, take, replicate, length-take, length-map, List·getD-map}
-use lib.Seq.{getD-take}
-use Rattle.field.specs.Field.{F, 𝟎, of, of-zero}
+use lib.Seq.{getD-take, take-all}
+use Rattle.field.specs.Field.{F, 𝟎, of, byte, of-byte, of-zero}
 use Rattle.series.specs.Word.{entry, entry-is, entry-past}
 use Rattle.series.specs.Shift.{cut, cut-unique}
 use Rattle.series.specs.Array.{bytes, read-at, filled-none}
@@ -25,9 +26,9 @@ use Rattle.key_equation.specs.Claim.{PlainAgrees, LookaheadAgrees, ScaledAgrees
 use Rattle.key_equation.specs.Agreement.{agreement}
 use Rattle.solver.specs.declared.Form.{Form}
 use Rattle.solver.specs.declared.Form.the-variants.{Plain, Lookahead, Scaled}
-use Rattle.solver.specs.Solver.{form-of, state-of}
+use Rattle.solver.specs.Solver.{form-of, state-of, Idle}
 use Rattle.solver.specs.declared.rounds.Progress.{Progress}
-use Rattle.solver.specs.Rounds.{cut-rounds}
+use Rattle.solver.specs.Rounds.{cut-rounds, cut-joined}
 
 -- ---- what a run is lent, where it is, and what is claimed of it
 
@@ -60,12 +61,14 @@ Claimed Scaled rounds k p =
     (Run.factors (entry (Run.joined rounds)) (Run.iterations rounds k))
     (Run.measure-swapped (entry (Run.joined rounds)) (Run.iterations rounds k)) p
 
--- What `run` promises: the run of the code is that of the definitions, and the agreement of FORMAT 8.15 holds of it.
+-- What `run` promises: the run of the code is that of the definitions, and the agreement of FORMAT 8.15 holds of it;
+-- the two forms that are not f are at their start.
 pub record Ran (f : Form) (rounds : List (List F)) (k : ℕ) (p : Progress) : Type 0 where
   pub form : p .solver .form ≡ f
   pub iterations : p .iterations ≡ Run.iterations rounds k
   pub is : at-of f (Run.run (form-of f) rounds k .known) p ≡ Run.run (form-of f) rounds k
   pub claim : Claimed f rounds k (at-of f (Run.run (form-of f) rounds k .known) p)
+  pub others : Idle f (p .solver)
 
 -- ---- laws of what is lent
 
@@ -91,6 +94,18 @@ first-is b n h =
 pub first-none : (b : List ℕ) → row (replicate 48 (record { 0 = 0 })) ≡ entry (take 0 (syndromes-of b))
 first-none b = let none = filled-none 48 (bytes b) in row-values _ (none .long) ∙ none .is ∙ first-is b 0 (omega arith)
 
+-- its syndromes as bytes, and its lengths
+pub lent : (rounds : List (List F)) → length (Run.joined rounds) ≤ 48
+    → rounds-of (map byte (Run.joined rounds)) (map length rounds) ≡ rounds
+lent rounds h =
+    ap (λ s. cut-rounds (take 48 s) (map length rounds)) (back (Run.joined rounds))
+    ∙ ap (λ s. cut-rounds s (map length rounds)) (take-all 48 (Run.joined rounds) h)
+    ∙ cut-joined rounds
+  where
+    back : (s : List F) → map of (map byte s) ≡ s
+    back [] = refl
+    back (x ∷ s) = ap₂ _∷_ (of-byte x) (back s)
+
 -- ---- laws of runs
 
 -- every run of the definitions has it
@@ -100,10 +115,12 @@ claimed Lookahead rounds k = agreement rounds k .in-lookahead
 claimed Scaled rounds k = agreement rounds k .in-scaled
 
 pub ran : (f : Form) (rounds : List (List F)) (k : ℕ) (p : Progress) → p .solver .form ≡ f
-    → at-of f (Run.run (form-of f) rounds k .known) p ≡ Run.run (form-of f) rounds k → Ran f rounds k p
-ran f rounds k p e is = record {
+    → at-of f (Run.run (form-of f) rounds k .known) p ≡ Run.run (form-of f) rounds k → Idle f (p .solver)
+    → Ran f rounds k p
+ran f rounds k p e is idle = record {
   form = e;
   iterations = ap (λ (q : Run.At (form-of f)). q .r) is ∙ run-r (form-of f) rounds k;
   is = is;
   claim = subst (Claimed f rounds k) (sym is) (claimed f rounds k);
+  others = idle;
 }

@@ -10,7 +10,8 @@ ghost use Prim.Native.Nat.{ℕ, _+_, _-_};
 ghost use mathlib.Core.Path.{_≡_};
 ghost use Rattle.polynomial.specs.Polynomial.{row};
 ghost use Rattle.key_equation.specs.Length.{k-of};
-ghost use Rattle.solver.specs.Solver.{form-of, Is, clip, iterate-clipped, iterated, k-in};
+ghost use Rattle.solver.specs.Solver.{form-of, Is, with-plain, with-lookahead, with-scaled, Kept, Fresh};
+ghost use Rattle.solver.specs.Solver.{clip, iterate-clipped, iterated, k-in};
 use crate::lookahead::Lookahead;
 use crate::plain::Plain;
 use crate::scaled::Scaled;
@@ -33,9 +34,9 @@ pub struct Solver {
 }
 
 impl Solver {
-    // A solver in the named form, before its first round.
+    // A solver in the named form, before its first round: each form's state is at its start.
     pub fn start(named: Form) -> Solver
-        ensures { λ p. ⌜ Is named 0 p (form-of named .start) ⌝ }
+        ensures { λ p. ⌜ (p .form ≡ named) × Fresh p ⌝ }
     {
         let p = Plain::start();
         let l = Lookahead::start();
@@ -51,7 +52,7 @@ impl Solver {
     // The solver with its plain form in another state. It is built anew: a field set in a copy made reading a tenth
     // slower, where every subword has one change.
     fn with_plain(self, next: Plain) -> Solver
-        ensures { λ q. ⌜ (q .form ≡ self .form) × (q .plain ≡ next) ⌝ }
+        ensures { λ q. ⌜ q ≡ with-plain next self ⌝ }
     {
         let form = self.form;
         let l = self.lookahead;
@@ -66,7 +67,7 @@ impl Solver {
 
     // The solver with its lookahead form in another state.
     fn with_lookahead(self, next: Lookahead) -> Solver
-        ensures { λ q. ⌜ (q .form ≡ self .form) × (q .lookahead ≡ next) ⌝ }
+        ensures { λ q. ⌜ q ≡ with-lookahead next self ⌝ }
     {
         let form = self.form;
         let p = self.plain;
@@ -81,7 +82,7 @@ impl Solver {
 
     // The solver with its scaled form in another state.
     fn with_scaled(self, next: Scaled) -> Solver
-        ensures { λ q. ⌜ (q .form ≡ self .form) × (q .scaled ≡ next) ⌝ }
+        ensures { λ q. ⌜ q ≡ with-scaled next self ⌝ }
     {
         let form = self.form;
         let p = self.plain;
@@ -98,6 +99,7 @@ impl Solver {
     pub fn enter(self, u: u8, s: [Gf; SYNDROMES]) -> Solver
         ensures { λ p. ⌜ ((f : Form) (m : form-of f .State) → Is f u self m
             → Is f u p (form-of f .enter u (row s) m)) ⌝ }
+        ensures kept { λ p. ⌜ Kept (self .form) self p ⌝ }
     {
         let form = self.form;
         let l = self.lookahead;
@@ -113,6 +115,7 @@ impl Solver {
     pub fn iterate(self, r: u8, s: [Gf; SYNDROMES]) -> Solver
         ensures { λ p. ⌜ ((f : Form) (m : form-of f .State) → Is f r self m
             → Is f (r + 1) p (clip f (form-of f .iterate r (row s) m))) ⌝ }
+        ensures kept { λ p. ⌜ Kept (self .form) self p ⌝ }
     {
         let form = self.form;
         let p = self.plain;
@@ -130,6 +133,7 @@ impl Solver {
     pub fn run(self, from: u8, to: u8, s: [Gf; SYNDROMES]) -> Solver
         ensures { λ p. ⌜ ((f : Form) (m : form-of f .State) → Is f from self m
             → Is f (from + (to - from)) p (iterated (iterate-clipped f (row s)) from (to - from) m)) ⌝ }
+        ensures kept { λ p. ⌜ Kept (self .form) self p ⌝ }
     {
         let form = self.form;
         let p = self.plain;

@@ -38,7 +38,7 @@ module _ (p : Profile) (r : ℕ) (g h : Progress) (is : h ≡ stage p r g) where
   stages-over zero e = rw (← is, eq-eqb (unsettled p h) 0 e)
   stages-over (suc left) e = rw (← is, eq-eqb (unsettled p h) 0 e)
 
-  pub stages-stop : (left : ℕ) → left < unsettled p h → stages p left r g ≡ stopped r
+  pub stages-stop : (left : ℕ) → left < unsettled p h → stages p left r g ≡ stopped r h
   unfolding stages
   stages-stop zero l = rw (← is, ne-eqb (unsettled p h) 0 (omega arith), lt-ltb 0 (unsettled p h) l)
   stages-stop (suc left) l = rw (← is, ne-eqb (unsettled p h) 0 (omega arith), lt-ltb (suc left) (unsettled p h) l)
@@ -113,7 +113,7 @@ module _ (p : Profile) (y : Series) where
   stages-settled s o = stages-entered p y s (o .low) (o .entered)
       ∙ stages-over p s (before-stage p y s) _ refl (p .nested - s) (o .none-left)
 
-  stages-stopped : (s : ℕ) → Fails p y s → stages p (p .nested) 0 (start p y) ≡ stopped s
+  stages-stopped : (s : ℕ) → Fails p y s → stages p (p .nested) 0 (start p y) ≡ stopped s (after-stage p y s)
   stages-stopped s f = stages-entered p y s (f .low) (f .entered)
       ∙ stages-stop p s (before-stage p y s) _ refl (p .nested - s) (f .many)
 
@@ -181,7 +181,7 @@ module _ (p : Profile) (y : Series) where
       go : Course → Over p y r × (g ≡ after-stage p y r)
       go (accepting c z a) = over (a .last) (a .over)
       go (failing s f) =
-          let x : stopped s ≡ settled r g = sym (stages-stopped s f) ∙ e in
+          let x : stopped s (after-stage p y s) ≡ settled r g = sym (stages-stopped s f) ∙ e in
           let z : _≡_ {A = ℕ} 0 1 = cc in
           absurd (omega arith)
       go (rejecting a) = over (a .last) (a .over)

@@ -160,19 +160,20 @@ round p r g = extend p (2 * capability p r) (2 * capability p (suc r)) g
 
 -- ---- stages
 
--- every subword is settled after stage r, or decoding ended after it
+-- every subword is settled after stage r, or decoding ended after it; with the progress after it
 pub data Ending : Type 0 where
   settled : (r : ℕ) → Progress → Ending
-  stopped : (r : ℕ) → Ending
+  stopped : (r : ℕ) → Progress → Ending
 
 -- FORMAT 6.5: none unsettled, all is settled; more than v − r unsettled, decoding ends with number 8 and stage r;
 -- otherwise round r + 1 follows, and then stage r + 1
 abbrev pub after : Profile → ℕ → ℕ → Progress → Ending → Ending
-after p left r g later = cond (eqb (unsettled p g) 0) (settled r g) (cond (ltb left (unsettled p g)) (stopped r) later)
+after p left r g later =
+    cond (eqb (unsettled p g) 0) (settled r g) (cond (ltb left (unsettled p g)) (stopped r g) later)
 
 -- with left = 0 nothing follows
 unfoldable pub stages : Profile → ℕ → ℕ → Progress → Ending
-stages p zero r g = after p 0 r (stage p r g) (stopped r)
+stages p zero r g = after p 0 r (stage p r g) (stopped r (stage p r g))
 stages p (suc left) r g = after p (suc left) r (stage p r g) (stages p left (suc r) (round p r (stage p r g)))
 
 -- ---- the report
@@ -225,7 +226,7 @@ outcome-number foreign = 9
 
 -- FORMAT 4.9 and 4.10: are all strips settled when staged decoding ends? Is the block then a codeword?
 abbrev pub outcome-of : Profile → Ending → Outcome
-outcome-of p (stopped r) = failed r
+outcome-of p (stopped r g) = failed r
 outcome-of p (settled r g) = cond (holds (codeword? p (g .block))) (accepted (g .block) (report p r g)) foreign
 
 unfoldable pub decode : Profile → Series → Outcome

@@ -7,8 +7,6 @@ use mathlib.Core.Path.{_≡_, refl, ap, subst}
 use mathlib.Core.Logic.{_≢_}
 use native.Mathlib.Omega.{arith}
 use Rattle.series.specs.Series.{Series}
-use Rattle.key_equation.specs.Run.{joined, events, after}
-use Rattle.key_equation.specs.Ends.{finish}
 use Rattle.profile.specs.declared.Profile.{Profile}
 use Rattle.profile.specs.Definition.{capability}
 use Rattle.profile.specs.Valid.{Valid}
@@ -27,7 +25,6 @@ module _ (p : Profile) (ok : Valid p) (f : Form) (S : Series) (s : Solver) where
   pub ready-advance : (r : ℕ) (q : Solver)
       → r ≤ p .nested → Advanced (seen-before p r) (2 * capability p r) S s q → Ready p f r S s
       → Ended f (rounds-of p S r) q
-  unfolding Ended finish events after joined
   ready-advance zero q h advanced ready = stage-first p ok f S s q (ready .past) (ready .ended) advanced
   ready-advance (suc r) q h advanced ready =
       stage-next p ok f S s q r S h (ready .past) (λ j l. refl) (ready .ended) advanced

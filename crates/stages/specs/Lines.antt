@@ -17,7 +17,7 @@ use lib.ListN.{List·getD-map, List·getD-eq-default}
 use lib.Seq.{getD-set-same, getD-set-other}
 use Rattle.solver.specs.declared.Form.{Form}
 use Rattle.solver.specs.declared.Solver.{Solver}
-use Rattle.solver.specs.Solver.{form-of, Is}
+use Rattle.solver.specs.Solver.{Fresh}
 use Rattle.solver.specs.ContinuationDefinition.{Ended, ended-start}
 use Rattle.staged_decoding.specs.Definition as staged
 use Rattle.staged_decoding.specs.Definition.{put, total, count-of}
@@ -61,12 +61,12 @@ says-past lines i h =
     List·getD-eq-default (map (λ l. verdict-of (l .verdict)) lines) staged.clean
     (omega (arith, length-map lines (λ l. verdict-of (l .verdict))))
 
-pub started : (f : Form) (s : Solver) → Is f 0 s (form-of f .start)
+pub started : (f : Form) (s : Solver) → s .form ≡ f → Fresh s
     → Started f (replicate 8 (record { verdict = Clean; solver = s }))
-started f s h = record {
+started f s e h = record {
   long = length-replicate 8 l;
   solvers = λ i x (m, is). subst (λ (x : Line). Ended f [] (x .solver))
-      (sym (getD-replicate 8 i l x (omega (arith, m, length-replicate 8 l))) ∙ is x) (ended-start f s h);
+      (sym (getD-replicate 8 i l x (omega (arith, m, length-replicate 8 l))) ∙ is x) (ended-start f s e h);
   says = λ i. all i (decLt i 8);
 }
   where

@@ -9,7 +9,7 @@ use mathlib.Core.Path.{_≡_, refl, sym, ap, _∙_, subst}
 use mathlib.Core.Logic.{_≢_, by-cases}
 use mathlib.Core.Bool.{Bool, true, false, cond}
 use mathlib.Core.List.{List, []}
-use mathlib.Core.Option.{Option, none, some}
+use mathlib.Core.Option.{Option, none, some, Option·getD}
 use native.Mathlib.Decide.{decLt, ℕ-discrete}
 use native.Mathlib.Omega.{arith}
 use lib.Dec.{ltb}
@@ -37,7 +37,8 @@ use Rattle.stages.specs.Report.{verdict-of, says, Has}
 use Rattle.stages.specs.SubwordDefinition.{Took, Stayed}
 use Rattle.stages.specs.declared.Staged.{Staged}
 use Rattle.stages.specs.View.{shown, view, so-far, Standing, Before, Came}
-use Rattle.stages.specs.Lines.{any-default, has, has-same, has-other, says-at, says-other, shown-set, put-stay}
+use Rattle.stages.specs.Lines.{any-default, has, has-same, has-other, says-at, says-same, says-other}
+use Rattle.stages.specs.Lines.{shown-set, put-stay}
 
 abbrev pub next : (r k i : ℕ) → ℕ
 next r k i = cond (ltb i k) (suc r) r
@@ -60,7 +61,7 @@ shown-yes : (pending : List Bool) (lines : List Line) (k : ℕ) (d : Bool) → k
 unfolding shown
 shown-yes pending lines k d h e = rw (any-default pending k true d h, e)
 
-pub shown-no : (pending : List Bool) (lines : List Line) (k : ℕ) (d : Bool) → k < length pending
+shown-no : (pending : List Bool) (lines : List Line) (k : ℕ) (d : Bool) → k < length pending
     → getD pending k d ≡ false
     → shown pending lines k ≡ some (says lines k)
 unfolding shown
@@ -76,6 +77,7 @@ module _ (p : Profile) (f : Form) (r : ℕ) (t : List (List Gf)) where
     is = sym (each-none (step p r) (view b pending lines t));
     kept = record {
       solvers = λ i l m. rw (le-ltb i 0 (omega arith)) (h .kept .solvers i l m);
+      says = h .kept .says;
       rest = h .kept .rest;
     };
     rows = h .rows;
@@ -86,18 +88,26 @@ module _ (p : Profile) (f : Form) (r : ℕ) (t : List (List Gf)) where
   module _ (k : ℕ) (b c : List ℕ) (pending : List Bool) (lines : List Line) (low : k < p .subwords)
       (flags : k < length pending) (long : k < length lines) where
     kept-next : (x : Bool) (l : Line) → Standing p f (next r k) (view b pending lines t) lines
+        → verdict-of (l .verdict) ≡ Option·getD (cond x none (some (verdict-of (l .verdict)))) staged.clean
         → Ended f (so-far p k (suc r) (table t k) (cond x none (some (verdict-of (l .verdict))))) (l .solver)
         → Standing p f (next r (k + 1)) (view c (set pending k x) (set lines k l) t) (set lines k l)
     unfolding view
-    kept-next x l h e = record {
+    kept-next x l h told e = record {
       solvers = λ i y m. go i y m (ℕ-discrete i k);
-      rest =
-          λ i m. (other i (omega arith) ∙ h .rest i m .0, says-other lines k l long i (omega arith) ∙ h .rest i m .1);
+      says = λ i. says-is i (ℕ-discrete i k);
+      rest = λ i m. other i (omega arith) ∙ h .rest i m;
     }
       where
         other : (i : ℕ) → i ≢ k → shown (set pending k x) (set lines k l) i ≡ shown pending lines i
         other i n = ap (λ (s : ℕ → Option staged.Line). s i) (shown-set lines k l long pending x flags)
             ∙ put-other k _ (shown pending lines) i n
+
+        says-is : (i : ℕ) → Dec (i ≡ k)
+            → says (set lines k l) i ≡ Option·getD (shown (set pending k x) (set lines k l) i) staged.clean
+        says-is i (yes q) =
+            rw (q, shown-set lines k l long pending x flags, put-same k _ (shown pending lines))
+            (says-same lines k l long ∙ told)
+        says-is i (no n) = rw (other i n) (says-other lines k l long i n ∙ h .says i)
 
         same : (y : Line) → Has (set lines k l) k y
             → Ended f (so-far p k (next r (k + 1) k) (table t k) (shown (set pending k x) (set lines k l) k))
@@ -129,11 +139,13 @@ module _ (p : Profile) (f : Form) (r : ℕ) (t : List (List Gf)) where
       Next = Mid p f r g (k + 1) c (set pending k (q .pending)) (set lines k (q .line)) t
 
       go-on : view c (set pending k (q .pending)) (set lines k (q .line)) t ≡ step p r k G
+          → verdict-of (q .line .verdict)
+          ≡ Option·getD (cond (q .pending) none (some (verdict-of (q .line .verdict)))) staged.clean
           → Ended f (so-far p k (suc r) (table t k) (cond (q .pending) none (some (verdict-of (q .line .verdict)))))
           (q .line .solver) → Next
-      go-on is ended = record {
+      go-on is told ended = record {
         is = is ∙ ap (step p r k) (mid .is) ∙ sym (each-more k (step p r) g);
-        kept = kept-next (q .pending) (q .line) (mid .kept) ended;
+        kept = kept-next (q .pending) (q .line) (mid .kept) told ended;
         rows = mid .rows;
       }
 
@@ -145,6 +157,7 @@ module _ (p : Profile) (f : Form) (r : ℕ) (t : List (List Gf)) where
           (progress-equal (ap bytes kept) (shown-set lines k (q .line) long pending (q .pending) flags
           ∙ put-stay k _ (shown pending lines) line-is) refl
           ∙ sym (step-none p r k G (found-settled p r G k (says lines k) line-was)))
+          (rw settled refl)
           (subst (λ (o : Option staged.Line). Ended f (so-far p k (suc r) (table t k) o) (q .line .solver)) line-is
           (rw (line-was, same) (rw line-was at (mid .kept .solvers k (getD lines k e) (has lines k e long)))))
         where
@@ -159,11 +172,12 @@ module _ (p : Profile) (f : Form) (r : ℕ) (t : List (List Gf)) where
           → settle (capability p r) (p .length) (table t k) ≡ w
           → Took p f r k (table t k) w (bytes b) (bytes c) q → Next
       unfolding view
-      pending-next h none is (waits, same, ended) =
+      pending-next h none is (waits, same, blank, ended) =
           go-on
           (progress-equal same (shown-set lines k (q .line) long pending (q .pending) flags
           ∙ put-stay k _ (shown pending lines) (line-was ∙ rw waits)) refl
           ∙ sym (step-none p r k G (found-open p r G k line-was ∙ is)))
+          (rw waits blank)
           (rw (waits, lt-ltb k (p .subwords) low) ended)
         where
           line-was : shown pending lines k ≡ none
@@ -173,6 +187,7 @@ module _ (p : Profile) (f : Form) (r : ℕ) (t : List (List Gf)) where
           (progress-equal changed
           (shown-set lines k (q .line) long pending (q .pending) flags ∙ rw (settled, says)) refl
           ∙ sym (step-some p r k G w (found-open p r G k (shown-yes pending lines k d flags h) ∙ is)))
+          (rw settled refl)
           (rw (settled, says) ended)
 
       pub mid-next : (z : List Gf) → k < length t → (getD pending k d ≡ false → Stayed (getD lines k e) b c q)
@@ -201,7 +216,7 @@ module _ (p : Profile) (f : Form) (r : ℕ) (t : List (List Gf)) where
   mid-end g k b q e mid = record {
     is = is;
     kept = subst (λ h. Standing p f (λ _. suc r) h (q .lines)) is
-        (record { solvers = λ i l m. go i l m (decLt i k); rest = mid .kept .rest });
+        (record { solvers = λ i l m. go i l m (decLt i k); says = mid .kept .says; rest = mid .kept .rest });
   }
     where
       is : view b (q .pending) (q .lines) t ≡ stage p r g
@@ -215,5 +230,5 @@ module _ (p : Profile) (f : Form) (r : ℕ) (t : List (List Gf)) where
           (view b (q .pending) (q .lines) t .line i)) (l .solver)
       go i l m (yes h) = rw (lt-ltb i k h) at (mid .kept .solvers i l m)
       go i l m (no h) =
-          rw (mid .kept .rest i (omega arith) .0, le-ltb i (p .subwords) (omega arith))
-          (rw (mid .kept .rest i (omega arith) .0, le-ltb i (p .subwords) (omega arith)) at (mid .kept .solvers i l m))
+          rw (mid .kept .rest i (omega arith), le-ltb i (p .subwords) (omega arith))
+          (rw (mid .kept .rest i (omega arith), le-ltb i (p .subwords) (omega arith)) at (mid .kept .solvers i l m))

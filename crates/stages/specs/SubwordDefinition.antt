@@ -17,7 +17,7 @@ use Rattle.series.specs.Word.{entry, weight}
 use Rattle.profile.specs.declared.Profile.{Profile}
 use Rattle.solver.specs.declared.Form.{Form}
 use Rattle.solver.specs.ContinuationDefinition.{Ended}
-use Rattle.staged_decoding.specs.Definition.{add, line-of, line-rounds, rounds-of}
+use Rattle.staged_decoding.specs.Definition.{clean, add, line-of, line-rounds, rounds-of}
 use Rattle.stages.specs.declared.attempt.Attempted.{Attempted}
 use Rattle.stages.specs.declared.report.Line.{Line}
 use Rattle.stages.specs.declared.subword.StagedSubword.{StagedSubword}
@@ -34,7 +34,9 @@ Stayed line b c q = (q .pending ≡ false) × (q .line ≡ line) × (c ≡ b)
 
 -- b and c are the block before and after
 abbrev pub Took : Profile → Form → (r i : ℕ) → Series → Option (List F) → (b c : Series) → StagedSubword → Type 0
-Took p f r i S none b c q = (q .pending ≡ true) × (c ≡ b) × Ended f (rounds-of p S r) (q .line .solver)
+Took p f r i S none b c q =
+    (q .pending ≡ true) × (c ≡ b) × (verdict-of (q .line .verdict) ≡ clean)
+    × Ended f (rounds-of p S r) (q .line .solver)
 Took p f r i S (some w) b c q =
     (q .pending ≡ false) × (c ≡ add (p .length) i (entry w) b)
     × (verdict-of (q .line .verdict) ≡ line-of r (weight (p .length) (entry w)))

@@ -69,11 +69,11 @@ corrected-is r k h =
 
 module _ (p : Profile) (f : Form) (r i : ℕ) (S : Series) (b : Series) where
   module _ (a : Attempted) (o : Offered p f r S a) where
-    pub took-none : a .settled .found ≡ false → (v : Verdict)
+    pub took-none : a .settled .found ≡ false
         → Took p f r i S (answer (p .length) (a .settled)) b b
-        (record { pending = true; line = record { verdict = v; solver = a .solver } })
+        (record { pending = true; line = record { verdict = Clean; solver = a .solver } })
     unfolding answer
-    took-none missing v = rw missing (refl, refl, o .solver)
+    took-none missing = rw missing (refl, refl, refl, o .solver)
 
     pub took-some : (c : Series) (v : Verdict) → a .settled .found ≡ true
         → c ≡ add (p .length) i (cut (p .length) (values (a .settled .pattern))) b

@@ -4,16 +4,17 @@
 --   waiting p pending         how many subwords are pending
 --   so-far p i s S o          the rounds that a solver went through, o being what its subword's line is and s the next
 --                             stage if it has none
---   Standing p f next g lines     the solvers of the lines are in the form f at the end of these rounds; the
---                                 lines that are
---                             no subword's say clean
+--   Standing p f next g lines   the solvers of the lines are in the form f at the end of these rounds, next i being the
+--                             next stage of subword i; a line that the progress g does not have yet says clean, and
+--                             it has none that is no subword's
 --   Before p f r g lines      so it is before stage r, and the rows are zero past that stage's syndromes
 --   Came p f r g b q t        after stage r of the progress g
 --   Extended p r b q t u      u is the table t after round r + 1
---   Reached p f y b e         how decoding ended
+--   Reached p f y b e         how decoding of y ended: the block b and the lines show the progress after its last
+--                             stage, whether every subword is settled or not
 use Prim.Native.Nat.{ℕ, suc, _*_, _≤_, _<_}
 use mathlib.Core.Path.{_≡_}
-use mathlib.Core.Bool.{Bool, true, false, cond}
+use mathlib.Core.Bool.{Bool, true, cond}
 use mathlib.Core.List.{List, []}
 use mathlib.Core.Option.{Option, none, some}
 use lib.Dec.{ltb}
@@ -57,7 +58,8 @@ so-far p i s S (some l) = line-rounds p S l
 
 pub record Standing (p : Profile) (f : Form) (next : ℕ → ℕ) (g : Progress) (lines : List Line) : Type 0 where
   pub solvers : (i : ℕ) (l : Line) → Has lines i l → Ended f (so-far p i (next i) (g .row i) (g .line i)) (l .solver)
-  pub rest : (i : ℕ) → p .subwords ≤ i → (g .line i ≡ none) × (says lines i ≡ staged.clean)
+  pub says : (i : ℕ) → says lines i ≡ line-at g i
+  pub rest : (i : ℕ) → p .subwords ≤ i → g .line i ≡ none
 
 pub record Before (p : Profile) (f : Form) (r : ℕ) (g : Progress) (lines : List Line) : Type 0 where
   pub rows : (i : ℕ) → i < p .subwords → below (2 * capability p r) (g .row i)
@@ -78,14 +80,9 @@ Extended p r b pending t u = (lines : List Line) → view b pending lines u ≡ 
 
 -- ---- the end
 
--- the lines, beside the progress g
-pub record Shows (p : Profile) (f : Form) (g : Progress) (lines : List Line) : Type 0 where
-  pub long : length lines ≡ 8
-  pub says : (i : ℕ) → says lines i ≡ line-at g i
-  pub solvers : (i : ℕ) (l : Line) → Has lines i l → Ended f (line-rounds p (g .row i) (line-at g i)) (l .solver)
-
-abbrev pub Reached : Profile → Form → (y b : Series) → Ending → Type 0
-Reached p f y b e =
-    (e .settled ≡ true → (g : Progress) × (stages p (p .nested) 0 (start p y) ≡ settled (e .stage) g) × (g .block ≡ b)
-    × Shows p f g (e .lines))
-    × (e .settled ≡ false → stages p (p .nested) 0 (start p y) ≡ stopped (e .stage))
+pub record Reached (p : Profile) (f : Form) (y b : Series) (e : Ending) : Type 0 where
+  pub last : Progress
+  pub is : stages p (p .nested) 0 (start p y) ≡ cond (e .settled) (settled (e .stage) last) (stopped (e .stage) last)
+  pub block : last .block ≡ b
+  pub long : length (e .lines) ≡ 8
+  pub kept : Standing p f (λ _. suc (e .stage)) last (e .lines)

@@ -3,20 +3,21 @@
 --   At p f y r b q l t   decoding of y has gone through stage r, and a block, flags, lines and a table show where it is
 --
 -- Proved: a round brings the rows that the definition says (extended); so it is after stage 0 (at-first), after a round
--- and a stage more (at-next), and where no round follows decoding has ended (reached).
+-- and a stage more (at-next), and where no round follows decoding has ended (reached); where every subword is settled
+-- then, each solver is at the end of its line's rounds (reached-settled, reached-solvers).
 use Prim.Native.Nat.{ℕ, zero, suc, _+_, _-_, _*_, _≤_, _<_}
 use mathlib.Core.Path.{_≡_, refl, sym, ap, _∙_, fun-ext, subst}
 use mathlib.Core.Logic.{_≢_, by-cases}
 use mathlib.Core.Bool.{Bool, true, false, cond, _&&_, true≢false}
 use mathlib.Core.List.{List, []}
 use mathlib.Core.Option.{Option, none, some}
-use native.Mathlib.Decide.{decLt}
+use native.Mathlib.Decide.{decLt, ℕ-discrete}
 use native.Mathlib.Nat.{sub-zero}
 use native.Mathlib.Numerals.{add-one}
 use native.Mathlib.Omega.{arith}
 use lib.Dec.{leb, ltb, eqb}
 use lib.ListN.{length, getD, replicate}
-use borrow.Author.Tests.{lt-ltb, le-ltb, lt-leb, le-leb, leb-true, eqb-true, eq-eqb}
+use borrow.Author.Tests.{lt-ltb, le-ltb, lt-leb, le-leb, leb-true, eq-eqb, ne-eqb}
 use Rattle.field.specs.declared.Gf.{Gf}
 use Rattle.field.specs.Field.{F, 𝟎}
 use Rattle.series.specs.Series.{Series}
@@ -32,20 +33,20 @@ use Rattle.solver.specs.declared.Form.{Form}
 use Rattle.solver.specs.ContinuationDefinition.{Ended}
 use Rattle.staged_decoding.specs.Definition as staged
 use Rattle.staged_decoding.specs.Definition.{Progress, open?, unsettled-line, unsettled, line-at, line-rounds}
-use Rattle.staged_decoding.specs.Definition.{rounds-of, extend, start, stage, round, stages, settled}
+use Rattle.staged_decoding.specs.Definition.{rounds-of, extend, start, stage, round, stages, settled, stopped}
 use Rattle.staged_decoding.specs.Count.{count-cong, count-none}
 use Rattle.staged_decoding.specs.Stage.{progress-equal}
 use Rattle.staged_decoding.specs.Round.{extend-open, extend-settled, extend-low, window-high}
 use Rattle.staged_decoding.specs.Rounds.{rounds-cong}
-use Rattle.staged_decoding.specs.Course.{stages-over, stages-stop, stages-on}
+use Rattle.staged_decoding.specs.Course.{stages-over, stages-stop, stages-on, settled-course}
 use Rattle.extend.specs.LagrangeDefinition.{flag}
 use Rattle.extend.specs.Definition.{Seen}
 use Rattle.stages.specs.declared.report.Line.{Line}
 use Rattle.stages.specs.declared.Staged.{Staged}
+use Rattle.stages.specs.declared.Ending.{Ending}
 use Rattle.stages.specs.Report.{says, Has, Started}
-use Rattle.stages.specs.View.{shown, view, waiting, so-far, Standing, Before, Came, Shows, Reached}
+use Rattle.stages.specs.View.{shown, view, waiting, so-far, Standing, Before, Came, Reached}
 use Rattle.stages.specs.Lines.{any-default}
-use Rattle.stages.specs.Stage.{shown-no}
 
 -- ---- flags
 
@@ -117,6 +118,7 @@ module _ (p : Profile) (ok : Valid p) (f : Form) (r : ℕ) (small : r < p .neste
   round-kept : Standing p f (λ _. suc r) g lines → Standing p f (λ _. suc r) (round p r g) lines
   round-kept h = record {
     solvers = λ i l m. subst (λ (rounds : List (List F)). Ended f rounds (l .solver)) (go i) (h .solvers i l m);
+    says = λ i. rw same-line (h .says i);
     rest = λ i m. rw same-line (h .rest i m);
   }
     where
@@ -191,7 +193,8 @@ module _ (p : Profile) (f : Form) (b : List ℕ) (lines : List Line) (t : List (
     rows = first-rows;
     kept = record {
       solvers = λ i l m. rw (none-settled i) (go i l m (ltb i (p .subwords)));
-      rest = λ i h. (none-settled i, first .says i);
+      says = λ i. rw (none-settled i) (first .says i);
+      rest = λ i h. none-settled i;
     };
   }
     where
@@ -254,29 +257,6 @@ module _ (p : Profile) (ok : Valid p) (f : Form) (y : Series) (r : ℕ) (b : Lis
     count-now : unsettled p g ≡ waiting p pending
     count-now = waiting-is p pending enough b lines t
 
-    all-settled : waiting p pending ≡ 0 → Shows p f g lines
-    unfolding view
-    all-settled z = record {
-      long = long;
-      says = λ i. says-is i (decLt i (p .subwords));
-      solvers = λ i l m. solver-is i l m (decLt i (p .subwords));
-    }
-      where
-        line-now : (i : ℕ) → i < p .subwords → shown pending lines i ≡ some (says lines i)
-        line-now i h = shown-no pending lines i false (omega arith) (count-none (p .subwords) (flag pending) z i h)
-
-        says-is : (i : ℕ) → Dec (i < p .subwords) → says lines i ≡ line-at g i
-        says-is i (yes h) = rw (line-now i h)
-        says-is i (no h) = rw (now .kept .rest i (omega arith) .0) (now .kept .rest i (omega arith) .1)
-
-        solver-is : (i : ℕ) (l : Line) → Has lines i l → Dec (i < p .subwords)
-            → Ended f (line-rounds p (table t i) (line-at g i)) (l .solver)
-        solver-is i l m (yes h) = rw (line-now i h) (rw (line-now i h) at (now .kept .solvers i l m))
-        solver-is i l m (no h) =
-            rw (now .kept .rest i (omega arith) .0)
-            (rw (now .kept .rest i (omega arith) .0, le-ltb i (p .subwords) (omega arith)) at
-            (now .kept .solvers i l m))
-
     too-many : waiting p pending ≢ 0 → p .nested - r < waiting p pending
     too-many h =
         by-cases (decLt (p .nested - r) (waiting p pending)) (λ l. l)
@@ -285,12 +265,43 @@ module _ (p : Profile) (ok : Valid p) (f : Form) (y : Series) (r : ℕ) (b : Lis
           le-leb (waiting p pending) (p .nested - r) (omega arith),
         ) at follows)))
 
+    ends : Dec (waiting p pending ≡ 0)
+        → stages p (p .nested - r) r (now .from) ≡ cond (eqb (waiting p pending) 0) (settled r g) (stopped r g)
+    ends (yes z) =
+        stages-over p r (now .from) g (now .is) (p .nested - r) (count-now ∙ z)
+        ∙ rw (eq-eqb (waiting p pending) 0 z) refl
+    ends (no z) =
+        stages-stop p r (now .from) g (now .is) (p .nested - r) (omega (arith, count-now, too-many z))
+        ∙ rw (ne-eqb (waiting p pending) 0 z) refl
+
     pub reached : Reached p f y (bytes b) (record { settled = eqb (waiting p pending) 0; stage = r; lines = lines })
     unfolding view
-    reached = (
-      λ e.
-          let z = eqb-true (waiting p pending) 0 e in
-          (g, now .on ∙ stages-over p r (now .from) g (now .is) (p .nested - r) (count-now ∙ z), refl, all-settled z),
-      λ e. now .on ∙ stages-stop p r (now .from) g (now .is) (p .nested - r)
-          (omega (arith, count-now, too-many (λ z. true≢false (sym (eq-eqb _ 0 z) ∙ e)))),
-    )
+    reached = record {
+      last = g;
+      is = now .on ∙ ends (ℕ-discrete (waiting p pending) 0);
+      block = refl;
+      long = long;
+      kept = now .kept;
+    }
+
+-- ---- every subword is settled
+
+module _ (p : Profile) (f : Form) (y b : Series) (e : Ending) (r : Reached p f y b e) (h : e .settled ≡ true) where
+  pub reached-settled : stages p (p .nested) 0 (start p y) ≡ settled (e .stage) (r .last)
+  reached-settled = rw h at (r .is)
+
+  none-left : unsettled p (r .last) ≡ 0
+  none-left =
+      let (over, is) = settled-course p y (e .stage) (r .last) reached-settled in
+      ap (unsettled p) is ∙ over .none-left
+
+  pub reached-solvers : (i : ℕ) (l : Line) → Has (e .lines) i l
+      → Ended f (line-rounds p (r .last .row i) (line-at (r .last) i)) (l .solver)
+  unfolding unsettled
+  reached-solvers i l m = go (r .last .line i) refl (decLt i (p .subwords))
+    where
+      go : (o : Option staged.Line) → r .last .line i ≡ o → Dec (i < p .subwords)
+          → Ended f (line-rounds p (r .last .row i) (line-at (r .last) i)) (l .solver)
+      go (some x) q d = rw q (rw q at (r .kept .solvers i l m))
+      go none q (yes d) = absurd (true≢false (rw q at (count-none (p .subwords) (open? (r .last)) none-left i d)))
+      go none q (no d) = rw q (rw (q, le-ltb i (p .subwords) (omega arith)) at (r .kept .solvers i l m))

@@ -29,7 +29,8 @@ struct Staged {
     lines: [Line; SUBWORDS],
 }
 
-// How decoding ended, after which stage: every subword is settled, or too many are not.
+// How decoding ended, after which stage: every subword is settled, or too many are not. The line of one that is not
+// settled says clean, and its solver is at the end of that stage.
 pub struct Ending {
     pub settled: bool,
     pub stage: u8,

@@ -28,7 +28,7 @@ use profile::Profile;
 use solver::Form;
 use solver::Solver;
 
-// A subword after a stage. The verdict of one that is pending, not settled yet, says nothing.
+// A subword after a stage. The verdict of one that is pending, not settled yet, is clean.
 pub struct StagedSubword {
     pub pending: bool,
     pub line: Line,

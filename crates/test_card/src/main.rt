@@ -1,6 +1,7 @@
 // Prints the lists of cards, after a line `card of SIZE` for each. `stdout` holds the same lists from an independent
-// model: stored cards, and the sample card (FORMAT 10.11) cut at every byte and followed by one byte too many.
-// tools/make_vectors makes both files.
+// model: stored cards, the sample card (FORMAT 10.11) cut at every byte and followed by one byte too many, and a card
+// of hundreds of blocks, whole, cut in its last block and followed by one byte too many. tools/make_vectors makes both
+// files.
 //
 // Standard input is the number of cards and the cards, each after its size. These numbers have two bytes, the high
 // byte first.
@@ -10,7 +11,9 @@ ghost use mathlib.Core.Bool.{false};
 ghost use Rattle.card.specs.SectionDefinition.{over, left};
 use card::section::Section;
 use listing::LINE;
+use listing::text::put;
 use test_support::input;
+use test_support::output;
 use test_support::print;
 
 fn blank() -> [u8; LINE] {
@@ -51,12 +54,18 @@ fn list(card: &[u8]) {
     }
 }
 
+fn title(n: usize) {
+    let mut line = blank();
+    let mut at = put(&mut line, 0, b"card of");
+    at = print::number(&mut line, at, n);
+    at = put(&mut line, at, b"\n");
+    output::write(&line, at);
+}
+
 fn one() {
     let n = input::number();
     let space = input::bytes(n);
-    print::text(b"card of");
-    print::number(n);
-    print::text(b"\n");
+    title(n);
     list(&space[..n]);
 }
 

@@ -15,18 +15,22 @@
 // Standard input is the number of cases and the cases. A case is a byte, 1 for one with states; a byte with the size of
 // the profile, and the profile; the size of the block, and the block; the size of the output. These numbers have two
 // bytes, the high byte first.
-mod report;
-
 ghost use Prim.Native.Nat.{_≤_};
+use listing::text::digits;
+use listing::text::put;
 use profile::Answer;
 use profile::Parsed;
 use profile::Profile;
 use profile::Refusal;
 use solver::Form;
+use solver::Solver;
+use stages::report::Line;
 use stages::report::Report;
+use stages::report::Verdict;
 use test_support::input;
 use test_support::output;
 use test_support::print;
+use test_support::state;
 
 // Whether an output is as it was before.
 fn kept(out: &[u8]) -> bool {
@@ -40,75 +44,164 @@ fn kept(out: &[u8]) -> bool {
     true
 }
 
-fn number(q: Refusal) {
-    print::number(profile::number(q) as usize);
+fn number(line: &mut [u8], at: usize, q: Refusal) -> usize {
+    let end = print::number(line, at, profile::number(q) as usize);
     match q {
-        Refusal::Unsettled(stage) => print::number(stage as usize),
-        _ => print::text(b""),
+        Refusal::Unsettled(stage) => print::number(line, end, stage as usize),
+        _ => end,
     }
 }
 
-fn refused(q: Refusal, out: &[u8]) {
-    number(q);
-    if kept(out) {
-        print::text(b" | kept\n");
-    } else {
-        print::text(b" | lost\n");
+fn trace(line: &mut [u8], at: usize, kept: bool) -> usize {
+    if kept {
+        return put(line, at, b" | kept\n");
+    }
+    put(line, at, b" | lost\n")
+}
+
+fn refused(line: &mut [u8], q: Refusal, out: &[u8]) {
+    let end = number(line, 0, q);
+    let all = trace(line, end, kept(out));
+    output::write(line, all);
+}
+
+// How many of the eight lines are a subword's.
+fn subwords(p: Profile) -> usize
+    ensures { λ m. ⌜ m ≤ 8 ⌝ }
+{
+    if 8 < p.subwords {
+        return 8;
+    }
+    p.subwords as usize
+}
+
+// C for a clean subword, else M with its count and stage.
+fn verdict(line: &mut [u8], at: usize, l: Line) -> usize {
+    let v = l.verdict;
+    match v {
+        Verdict::Clean => put(line, at, b" C"),
+        Verdict::Corrected(count, stage) => {
+            let mut end = put(line, at, b" M");
+            end = digits(line, end, count as usize);
+            end = put(line, end, b"/");
+            digits(line, end, stage as usize)
+        }
     }
 }
 
-fn show(p: Profile, block: &[u8], out: &[u8], report: Report, states: bool) {
-    let all = report.lines;
-    print::text(b" 0 |");
-    print::number(report.last as usize);
-    print::number(report.changed as usize);
-    print::text(b" |");
-    report::lines(p, all);
-    print::text(b" |");
-    print::changes(block, out);
-    print::text(b"\n");
+fn verdicts(line: &mut [u8], at: usize, p: Profile, all: [Line; 8]) -> usize {
+    let m = subwords(p);
+    let mut end = at;
+    let mut i: usize = 0;
+    while i < m {
+        end = verdict(line, end, all[i]);
+        i = i + 1;
+    }
+    end
+}
+
+// The whole state of a solver after r iterations.
+fn whole(line: &mut [u8], at: usize, r: usize, s: Solver) -> usize {
+    let mut end = state::polynomials(line, at, s);
+    end = put(line, end, b" |");
+    end = state::place(line, end, r, s.length());
+    state::held(line, end, s)
+}
+
+// The state of subword i, corrected at stage r: its solver went through all syndromes of that stage.
+fn last_state(line: &mut [u8], p: Profile, i: usize, r: u8, l: Line) {
+    let s = l.solver;
+    let mut at = put(line, 0, b"state");
+    at = print::number(line, at, i);
+    at = whole(line, at, 2 * p.capability(r) as usize, s);
+    at = put(line, at, b"\n");
+    output::write(line, at);
+}
+
+fn state_of(line: &mut [u8], p: Profile, i: usize, l: Line) {
+    let v = l.verdict;
+    if let Verdict::Corrected(_, r) = v {
+        last_state(line, p, i, r, l);
+    }
+}
+
+// A line for each corrected subword.
+fn state_lines(line: &mut [u8], p: Profile, all: [Line; 8]) {
+    let m = subwords(p);
+    let mut i: usize = 0;
+    while i < m {
+        state_of(line, p, i, all[i]);
+        i = i + 1;
+    }
+}
+
+// The last stage, and how many symbols were changed.
+fn counts(line: &mut [u8], last: u8, changed: u16) -> usize {
+    let mut at = put(line, 0, b" 0 |");
+    at = print::number(line, at, last as usize);
+    at = print::number(line, at, changed as usize);
+    put(line, at, b" |")
+}
+
+fn show(line: &mut [u8], p: Profile, block: &[u8], out: &[u8], r: Report, states: bool) {
+    let all = r.lines;
+    let mut at = counts(line, r.last, r.changed);
+    at = verdicts(line, at, p, all);
+    at = put(line, at, b" |");
+    at = print::changes(line, at, block, out);
+    at = put(line, at, b"\n");
+    output::write(line, at);
     if states {
-        report::states(p, all);
+        state_lines(line, p, all);
     }
 }
 
-fn accepted(profile: &[u8], block: &[u8], out: &[u8], report: Report, states: bool) {
+fn accepted(line: &mut [u8], profile: &[u8], block: &[u8], out: &[u8], r: Report, states: bool) {
     match profile::questions::parse(profile) {
-        Parsed::Accepted(p) => show(p, block, out, report, states),
-        Parsed::Refused(_) => print::text(b" accepted with a refused profile\n"),
+        Parsed::Accepted(p) => show(line, p, block, out, r, states),
+        Parsed::Refused(_) => {
+            let end = put(line, 0, b" accepted with a refused profile\n");
+            output::write(line, end);
+        }
     }
 }
 
-fn read(form: Form, profile: &[u8], block: &[u8], out: &mut [u8], states: bool) {
+fn read(line: &mut [u8], form: Form, profile: &[u8], block: &[u8], out: &mut [u8], states: bool) {
     let r = decoder::decode(profile, block, out, form);
     let a = r.answer;
     let report = r.report;
     match a {
-        Answer::Accepted => accepted(profile, block, out, report, states),
-        Answer::Refused(q) => refused(q, out),
+        Answer::Accepted => accepted(line, profile, block, out, report, states),
+        Answer::Refused(q) => refused(line, q, out),
     }
 }
 
-fn in_form(name: &[u8], form: Form, profile: &[u8], block: &[u8], size: usize, states: bool)
+fn in_form(line: &mut [u8], form: Form, profile: &[u8], block: &[u8], size: usize, states: bool)
     requires { ⌜ size ≤ 65536 ⌝ }
 {
-    print::text(name);
+    let end = state::name(line, 0, form);
+    output::write(line, end);
     let mut out = output::bytes(size);
-    read(form, profile, block, &mut out[..size], states);
+    read(line, form, profile, block, &mut out[..size], states);
 }
 
-fn in_each(profile: &[u8], block: &[u8], size: usize, states: bool)
+fn title(line: &mut [u8], profile: &[u8], n: usize, size: usize) {
+    let mut at = put(line, 0, b"case");
+    at = print::numbers(line, at, profile);
+    at = put(line, at, b" |");
+    at = print::number(line, at, n);
+    at = print::number(line, at, size);
+    at = put(line, at, b"\n");
+    output::write(line, at);
+}
+
+fn in_each(line: &mut [u8], profile: &[u8], block: &[u8], size: usize, states: bool)
     requires { ⌜ size ≤ 65536 ⌝ }
 {
-    print::text(b"case");
-    print::bytes(profile);
-    print::text(b" |");
-    print::number(block.len());
-    print::number(size);
-    print::text(b"\n");
-    in_form(b"plain", Form::Plain, profile, block, size, states);
-    in_form(b"lookahead", Form::Lookahead, profile, block, size, states);
-    in_form(b"scaled", Form::Scaled, profile, block, size, states);
+    title(line, profile, block.len(), size);
+    in_form(line, Form::Plain, profile, block, size, states);
+    in_form(line, Form::Lookahead, profile, block, size, states);
+    in_form(line, Form::Scaled, profile, block, size, states);
 }
 
 fn one() {
@@ -118,7 +211,8 @@ fn one() {
     let n = input::number();
     let block = input::bytes(n);
     let size = input::number();
-    in_each(&profile[..k], &block[..n], size, states);
+    let mut line = io::buffer();
+    in_each(&mut line, &profile[..k], &block[..n], size, states);
 }
 
 fn main() {

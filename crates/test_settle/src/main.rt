@@ -10,10 +10,12 @@ ghost use Prim.Native.Nat.{_≤_, _<_};
 ghost use lib.ListN.{length};
 use field::Gf;
 use kernel::index;
+use listing::text::put;
 use polynomial::SYNDROMES;
 use profile::POSITIONS;
 use settle::Settled;
 use solver::Form;
+use test_support::output;
 use test_support::print;
 use test_support::state;
 
@@ -47,47 +49,55 @@ fn settle(form: Form, syndromes: &[u8], n: usize, t: usize) -> Settled
     )
 }
 
-fn change(position: usize, y: Gf) {
-    if !y.is_zero() {
-        print::number(position);
-        print::value(y);
+fn change(line: &mut [u8], at: usize, position: usize, y: Gf) -> usize {
+    if y.is_zero() {
+        return at;
     }
+    let end = print::number(line, at, position);
+    print::number(line, end, index(y.0))
 }
 
 // The positions that change, each with its change.
-fn changes(pattern: [Gf; POSITIONS]) {
+fn changes(line: &mut [u8], at: usize, pattern: [Gf; POSITIONS]) -> usize {
+    let mut end = at;
     let mut i: usize = 0;
     while i < POSITIONS {
-        change(i, pattern[i]);
+        end = change(line, end, i, pattern[i]);
         i = i + 1;
     }
+    end
 }
 
-fn show(r: Settled) {
-    if r.found {
-        print::text(b" | settled");
-    } else {
-        print::text(b" | failed");
+fn outcome(line: &mut [u8], at: usize, found: bool) -> usize {
+    if found {
+        return put(line, at, b" | settled");
     }
-    print::number(r.count as usize);
-    print::text(b" |");
-    let pattern = r.pattern;
-    changes(pattern);
-    print::text(b"\n");
+    put(line, at, b" | failed")
 }
 
-fn one(form: Form, syndromes: &[u8], n: usize, t: usize)
+// Ends a line with what came out.
+fn show(line: &mut [u8], at: usize, r: Settled) {
+    let pattern = r.pattern;
+    let mut end = outcome(line, at, r.found);
+    end = print::number(line, end, r.count as usize);
+    end = put(line, end, b" |");
+    end = changes(line, end, pattern);
+    end = put(line, end, b"\n");
+    output::write(line, end);
+}
+
+fn one(line: &mut [u8], form: Form, syndromes: &[u8], n: usize, t: usize)
     requires { ⌜ (length (now syndromes) ≤ 48) × (n ≤ 255) × (t ≤ 24) ⌝ }
 {
-    state::name(form);
-    print::text(b" |");
-    print::number(t);
-    print::number(n);
-    show(settle(form, syndromes, n, t));
+    let mut at = state::name(line, 0, form);
+    at = put(line, at, b" |");
+    at = print::number(line, at, t);
+    at = print::number(line, at, n);
+    show(line, at, settle(form, syndromes, n, t));
 }
 
 // The case at a place, in each form, and where the next one is: the end, where the case is not whole.
-fn next(input: &[u8], at: usize) -> usize
+fn next(line: &mut [u8], input: &[u8], at: usize) -> usize
     requires { ⌜ at < length (now input) ⌝ }
     ensures { λ r. ⌜ at < r ⌝ }
 {
@@ -106,22 +116,23 @@ fn next(input: &[u8], at: usize) -> usize
         return end;
     }
     let syndromes = &input[a..b];
-    one(Form::Plain, syndromes, n, t);
-    one(Form::Lookahead, syndromes, n, t);
-    one(Form::Scaled, syndromes, n, t);
+    one(line, Form::Plain, syndromes, n, t);
+    one(line, Form::Lookahead, syndromes, n, t);
+    one(line, Form::Scaled, syndromes, n, t);
     b
 }
 
 // The cases of the input, one after the other.
-fn all(input: &[u8]) {
+fn all(line: &mut [u8], input: &[u8]) {
     let mut at: usize = 0;
     while at < input.len() {
-        at = next(input, at);
+        at = next(line, input, at);
     }
 }
 
 fn main() {
     let mut space = io::large_buffer();
+    let mut line = io::buffer();
     let n = io::read_full(0, &mut space);
-    all(&space[..n]);
+    all(&mut line, &space[..n]);
 }

@@ -1,6 +1,6 @@
 -- A text, and a number with its text.
 use Rattle.listing.specs.Definition.{decimal, ascii}
-use Rattle.listing.specs.Laws.{put-next, put-line}
+use Rattle.listing.specs.Laws.{appended-next, appended-line, blocks-short}
 use borrow.Author.Needs.{needs}
 use Rattle.listing.proofs.blocks.Statement.{statement}
 use Rattle.listing.proofs.blocks.Tie as tie
@@ -21,8 +21,8 @@ returns : tie.Need-returns
 returns c =
     let at-put = c .before .before .before in
     let given = at-put .before .before .before in
-    put-line (put-next (decimal (given .args .n)) (ascii "\n")
-    (at-put .put .ensures) (c .field .ensures .0))
+    appended-line (blocks-short (given .args .n) (search needs)) (search needs)
+    (appended-next (decimal (given .args .n)) (ascii "\n") (at-put .put .ensures) (c .field .ensures))
 
 pub blocks-spec : {M : Type 1} → statement M
 blocks-spec =

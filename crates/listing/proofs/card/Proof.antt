@@ -1,6 +1,6 @@
 -- A text, and a number with its text.
 use Rattle.listing.specs.Definition.{decimal, ascii}
-use Rattle.listing.specs.Laws.{put-next, put-line}
+use Rattle.listing.specs.Laws.{appended-next, appended-line, card-short}
 use borrow.Author.Needs.{needs}
 use Rattle.listing.proofs.card.Statement.{statement}
 use Rattle.listing.proofs.card.Tie as tie
@@ -21,8 +21,8 @@ returns : tie.Need-returns
 returns c =
     let at-put = c .before .before .before in
     let given = at-put .before .before .before in
-    put-line (put-next (decimal (given .args .q)) (ascii "\n")
-    (at-put .put .ensures) (c .field .ensures .0))
+    appended-line (card-short (given .args .q) (search needs)) (search needs)
+    (appended-next (decimal (given .args .q)) (ascii "\n") (at-put .put .ensures) (c .field .ensures))
 
 pub card-spec : {M : Type 1} → statement M
 card-spec =

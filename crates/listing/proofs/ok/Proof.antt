@@ -1,5 +1,5 @@
 -- Three numbers with their texts.
-use Rattle.listing.specs.Laws.{put-next, put-line}
+use Rattle.listing.specs.Laws.{appended-next, appended-line, ok-short}
 use borrow.Author.Needs.{needs}
 use Rattle.listing.proofs.ok.Statement.{statement}
 use Rattle.listing.proofs.ok.Tie as tie
@@ -26,8 +26,10 @@ returns : tie.Need-returns
 returns c =
     let at-field2 = c .before .before .before in
     let at-field = at-field2 .before .before .before in
-    put-line (put-next _ _ (put-next _ _ (at-field .field .ensures .0)
-    (at-field2 .field2 .ensures .0)) (c .field3 .ensures .0))
+    let given = at-field .before .before .before .args in
+    let fits = ok-short (given .index) (given .last) (given .changed) (search needs) (search needs) (search needs) in
+    let start = appended-next _ _ (at-field .field .ensures) (at-field2 .field2 .ensures) in
+    appended-line fits (search needs) (appended-next _ _ start (c .field3 .ensures))
 
 pub ok-spec : {M : Type 1} → statement M
 ok-spec =

@@ -1,5 +1,5 @@
 -- Two numbers with their texts.
-use Rattle.listing.specs.Laws.{put-next, put-line}
+use Rattle.listing.specs.Laws.{appended-next, appended-line, refused-short}
 use borrow.Author.Needs.{needs}
 use Rattle.listing.proofs.refused.Statement.{statement}
 use Rattle.listing.proofs.refused.Tie as tie
@@ -17,7 +17,11 @@ field-requires-2 : tie.Need-field-requires-2
 field-requires-2 c κs = search needs
 
 returns : tie.Need-returns
-returns c = put-line (put-next _ _ (c .before .before .before .field .ensures .0) (c .field2 .ensures .0))
+returns c =
+    let at-field = c .before .before .before in
+    let given = at-field .before .before .before .args in
+    appended-line (refused-short (given .index) (given .q) (search needs) (search needs)) (search needs)
+    (appended-next _ _ (at-field .field .ensures) (c .field2 .ensures))
 
 pub refused-spec : {M : Type 1} → statement M
 refused-spec =

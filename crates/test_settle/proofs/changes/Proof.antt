@@ -1,14 +1,16 @@
 -- The loop ends: i rises to 255.
 use Prim.Native.Nat.{_-_}
+use mathlib.Core.Path.{_≡_}
+use lib.ListN.{length}
 use borrow.Author.Needs.{needs}
 use Rattle.test_settle.proofs.changes.Statement.{statement}
 use Rattle.test_settle.proofs.changes.Tie as tie
 
 abbrev Inv-loop : tie.InvT-loop
-Inv-loop pattern i₀ i = Unit {0}
+Inv-loop line₀ at pattern end₀ i₀ line end i = length line ≡ length line₀
 
 abbrev μ-loop : tie.MeasureT-loop
-μ-loop pattern i₀ i = 255 - i
+μ-loop line₀ at pattern end₀ i₀ line end i = 255 - i
 
 loop-holds : tie.Need-loop-holds Inv-loop μ-loop
 loop-holds c = search needs
@@ -28,6 +30,9 @@ loop-less c = search needs
 loop-again : tie.Need-loop-again Inv-loop μ-loop
 loop-again c = search needs
 
+same-length : tie.Need-same-length Inv-loop μ-loop
+same-length c = search needs
+
 returns : tie.Need-returns Inv-loop μ-loop
 returns c = search needs
 
@@ -43,4 +48,5 @@ changes-spec =
     add-i
     loop-less
     loop-again
+    same-length
     returns)

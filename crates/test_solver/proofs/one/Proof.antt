@@ -5,10 +5,10 @@ use Rattle.test_solver.proofs.one.Statement.{statement}
 use Rattle.test_solver.proofs.one.Tie as tie
 
 abbrev Inv-loop : tie.InvT-loop
-Inv-loop form syndromes lengths events h₀ e₀ h e = Unit {0}
+Inv-loop line form syndromes lengths events h₀ e₀ h e = Unit {0}
 
 abbrev μ-loop : tie.MeasureT-loop
-μ-loop form syndromes lengths events h₀ e₀ h e = events - e
+μ-loop line form syndromes lengths events h₀ e₀ h e = events - e
 
 loop-holds : tie.Need-loop-holds Inv-loop μ-loop
 loop-holds c = search needs
@@ -37,6 +37,9 @@ note-requires-2 c κs = search needs
 show-requires : tie.Need-show-requires Inv-loop μ-loop
 show-requires c κs = search needs
 
+same-length : tie.Need-same-length Inv-loop μ-loop
+same-length c = search needs
+
 returns : tie.Need-returns Inv-loop μ-loop
 returns c = search needs
 
@@ -55,4 +58,5 @@ one-spec =
     run-requires-2
     note-requires-2
     show-requires
+    same-length
     returns)

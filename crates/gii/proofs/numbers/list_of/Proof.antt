@@ -12,18 +12,18 @@ use Rattle.gii.proofs.numbers.list_of.Statement.{statement}
 use Rattle.gii.proofs.numbers.list_of.Tie as tie
 
 abbrev Inv-loop : tie.InvT-loop
-Inv-loop stage last changed lines list₀ i₀ list i =
-    (i ≤ 8) × (length lines ≡ 8) × (length list ≡ 28)
-    × (take (4 + 3 * i) list ≡ take 4 list₀ ++ lines-numbers i (says lines))
+Inv-loop last changed lines list₀ i₀ list i =
+    (i ≤ 8) × (length lines ≡ 8) × (length list ≡ 27)
+    × (take (3 + 3 * i) list ≡ take 3 list₀ ++ lines-numbers i (says lines))
 
 abbrev μ-loop : tie.MeasureT-loop
-μ-loop stage last changed lines list₀ i₀ list i = 8 - i
+μ-loop last changed lines list₀ i₀ list i = 8 - i
 
 head-requires : tie.Need-head-requires Inv-loop μ-loop
 head-requires c κs = search needs
 
 loop-holds : tie.Need-loop-holds Inv-loop μ-loop
-loop-holds c = (omega arith, search needs, search needs, lines-none (says (c .before .args .t4)) (c .head .result))
+loop-holds c = (omega arith, search needs, search needs, lines-none (says (c .before .args .t3)) (c .head .result))
 
 mul-line-numbers : tie.Need-mul-line-numbers Inv-loop μ-loop
 mul-line-numbers c = search needs
@@ -63,7 +63,7 @@ loop-again c =
       omega arith,
       now .inv .1,
       omega (arith, now .inv .2, c .list2 .given),
-      lines-more (given .args .t4) (take 4 (head .head .result)) (now .list) _ _ (now .i) _
+      lines-more (given .args .t3) (take 3 (head .head .result)) (now .list) _ _ (now .i) _
           (omega (arith, now .inv .1)) (now .inv .3) (line .ensures) (c .before .put .ensures),
     )
 
@@ -71,7 +71,7 @@ returns : tie.Need-returns Inv-loop μ-loop
 returns c =
     let end = c .before .loop in
     let head = c .before .before in
-    lines-all (says (head .before .args .t4)) _ (head .head .result) (end .list) (end .i) (omega arith)
+    lines-all (says (head .before .args .t3)) _ (head .head .result) (end .list) (end .i) (omega arith)
     (end .inv .2) (head .head .ensures)
     (end .inv .3)
 

@@ -1,5 +1,8 @@
 -- Question after question, from the last back to the first; then what each of them asks.
-use Rattle.profile.specs.QuestionsLaws.{asked-in-order}
+use mathlib.Core.Path.{refl, sym, ap, ap₂, _∙_}
+use mathlib.Core.Bool.{_||_}
+use lib.Dec.{eqb}
+use Rattle.profile.specs.QuestionsLaws.{next, asked-in-order}
 use borrow.Author.Needs.{needs}
 use Rattle.profile.proofs.questions.judge.Statement.{statement}
 use Rattle.profile.proofs.questions.judge.Tie as tie
@@ -13,8 +16,14 @@ decodes-requires c κs = search needs
 fetches-requires : tie.Need-fetches-requires
 fetches-requires c κs = search needs
 
+extracts-requires : tie.Need-extracts-requires
+extracts-requires c κs = search needs
+
 block-size-requires : tie.Need-block-size-requires
 block-size-requires c κs = search needs
+
+data-size-requires : tie.Need-data-size-requires
+data-size-requires c κs = search needs
 
 ask-requires : tie.Need-ask-requires
 ask-requires c κs = search needs
@@ -43,9 +52,6 @@ length-requires c κs = search needs
 ask-requires-5 : tie.Need-ask-requires-5
 ask-requires-5 c κs = search needs
 
-data-size-requires : tie.Need-data-size-requires
-data-size-requires c κs = search needs
-
 ask-requires-6 : tie.Need-ask-requires-6
 ask-requires-6 c κs = search needs
 
@@ -55,49 +61,51 @@ ask-requires-7 c κs = search needs
 ask-requires-8 : tie.Need-ask-requires-8
 ask-requires-8 c κs = search needs
 
-cast-ask : tie.Need-cast-ask
-cast-ask c = search needs
-
 ask-requires-9 : tie.Need-ask-requires-9
 ask-requires-9 c κs = search needs
 
+cast-ask : tie.Need-cast-ask
+cast-ask c = search needs
+
+ask-requires-10 : tie.Need-ask-requires-10
+ask-requires-10 c κs = search needs
+
 returns : tie.Need-returns
 returns c =
-    let asked8 = c .before .before .before in
+    let asked9 = c .before .before .before in
+    let asked8 = asked9 .before .before in
     let asked7 = asked8 .before .before in
     let asked6 = asked7 .before .before in
-    let sized = asked6 .before .before in
-    let asked5 = sized .before in
+    let asked5 = asked6 .before .before in
     let asked4 = asked5 .before .before in
     let asked3 = asked4 .before .before in
     let asked2 = asked3 .before .before in
     let asked1 = asked2 .before .before in
-    let block = asked1 .before .before in
-    let fetch = block .before in
+    let payload = asked1 .before .before in
+    let block = payload .before in
+    let extract = block .before in
+    let fetch = extract .before in
     let decode = fetch .before in
     let encode = decode .before in
     let given = encode .before .args in
-    rw (
-      asked-in-order (given .caller) (given .l) (given .p),
-      c .ask9 .ensures,
-      asked8 .ask8 .ensures,
-      asked7 .ask7 .ensures,
-      asked6 .ask6 .ensures,
-      asked5 .ask5 .ensures,
-      asked4 .ask4 .ensures,
-      asked3 .ask3 .ensures,
-      asked2 .ask2 .ensures,
-      asked1 .ask .ensures,
-      encode .encodes .ensures,
-      decode .decodes .ensures,
-      fetch .fetches .ensures,
-      block .block-size .ensures,
-      asked2 .before .subwords .ensures,
-      asked3 .before .nested .ensures,
-      asked4 .before .capabilities .ensures,
-      asked5 .before .length .ensures,
-      sized .data-size .ensures,
-    )
+    let e = encode .encodes .ensures in
+    let d = decode .decodes .ensures in
+    let f = fetch .fetches .ensures in
+    let x = extract .extracts .ensures in
+    let size = block .block-size .ensures in
+    let data-size = payload .data-size .ensures in
+    let l = given .l in
+    next _ (c .ask10 .ensures) f refl
+    (next _ (asked9 .ask9 .ensures) x (ap (eqb (l .output)) data-size)
+    (next _ (asked8 .ask8 .ensures) (ap₂ _||_ e d) (ap (eqb (l .output)) size)
+    (next _ (asked7 .ask7 .ensures) (ap₂ _||_ (ap₂ _||_ d f) x) (ap (eqb (l .input)) size)
+    (next _ (asked6 .ask6 .ensures) e (ap (eqb (l .input)) data-size)
+    (next _ (asked5 .ask5 .ensures) refl (asked5 .before .length .ensures)
+    (next _ (asked4 .ask4 .ensures) refl (asked4 .before .capabilities .ensures)
+    (next _ (asked3 .ask3 .ensures) refl (asked3 .before .nested .ensures)
+    (next _ (asked2 .ask2 .ensures) refl (asked2 .before .subwords .ensures)
+    (asked1 .ask .ensures)))))))))
+    ∙ sym (asked-in-order (given .caller) l (given .p))
 
 pub judge-spec : {M : Type 1} → statement M
 judge-spec =
@@ -106,7 +114,9 @@ judge-spec =
     encodes-requires
     decodes-requires
     fetches-requires
+    extracts-requires
     block-size-requires
+    data-size-requires
     ask-requires
     subwords-requires
     ask-requires-2
@@ -116,10 +126,10 @@ judge-spec =
     ask-requires-4
     length-requires
     ask-requires-5
-    data-size-requires
     ask-requires-6
     ask-requires-7
     ask-requires-8
-    cast-ask
     ask-requires-9
+    cast-ask
+    ask-requires-10
     returns)

@@ -2,7 +2,7 @@
 use mathlib.Core.Path.{refl, ap, _∙_}
 use Rattle.solver.specs.LookaheadView.{lookahead}
 use Rattle.solver.specs.ScaledView.{scaled}
-use Rattle.solver.specs.Solver.{for-form}
+use Rattle.solver.specs.Solver.{for-form, kept}
 use borrow.Author.Needs.{needs}
 use Rattle.solver.proofs.Solver.enter.Statement.{statement}
 use Rattle.solver.proofs.Solver.enter.Tie as tie
@@ -29,21 +29,27 @@ with-scaled-requires : tie.Need-with-scaled-requires
 with-scaled-requires c κs = search needs
 
 returns : tie.Need-returns
-returns c = let e = c .enum-told .given .1 in for-form _ _ _ e (e, refl)
+returns c = let e = c .enum-told .given .1 in (for-form _ _ _ e (e, refl), kept _ _ e (refl, refl))
 
 returns-2 : tie.Need-returns-2
 returns-2 c =
     let gone = c .before in
     let e = gone .before .enum-told2 .given .1 in
-    let (form, state) = c .with-lookahead .ensures in
-    for-form _ _ _ e (form ∙ e, ap (lookahead _) state ∙ gone .enter .ensures)
+    let is = c .with-lookahead .ensures in
+    let state = ap (λ q. q .lookahead) is in (
+      for-form _ _ _ e (ap (λ q. q .form) is ∙ e, ap (lookahead _) state ∙ gone .enter .ensures),
+      kept _ _ e (ap (λ q. q .plain) is, ap (λ q. q .scaled) is),
+    )
 
 returns-3 : tie.Need-returns-3
 returns-3 c =
     let gone = c .before in
     let e = gone .before .enum-told3 .given .1 in
-    let (form, state) = c .with-scaled .ensures in
-    for-form _ _ _ e (form ∙ e, ap (scaled _) state ∙ gone .enter2 .ensures)
+    let is = c .with-scaled .ensures in
+    let state = ap (λ q. q .scaled) is in (
+      for-form _ _ _ e (ap (λ q. q .form) is ∙ e, ap (scaled _) state ∙ gone .enter2 .ensures),
+      kept _ _ e (ap (λ q. q .plain) is, ap (λ q. q .lookahead) is),
+    )
 
 pub enter-spec : {M : Type 1} → statement M
 enter-spec =

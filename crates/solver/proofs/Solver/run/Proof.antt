@@ -3,7 +3,7 @@ use mathlib.Core.Path.{ap, _∙_}
 use Rattle.solver.specs.PlainView.{plain}
 use Rattle.solver.specs.LookaheadView.{lookahead}
 use Rattle.solver.specs.ScaledView.{scaled}
-use Rattle.solver.specs.Solver.{for-form}
+use Rattle.solver.specs.Solver.{for-form, kept}
 use borrow.Author.Needs.{needs}
 use Rattle.solver.proofs.Solver.run.Statement.{statement}
 use Rattle.solver.proofs.Solver.run.Tie as tie
@@ -39,22 +39,31 @@ returns : tie.Need-returns
 returns c =
     let gone = c .before in
     let e = gone .before .enum-told .given .1 in
-    let (form, state) = c .with-plain .ensures in
-    for-form _ _ _ e (form ∙ e, ap (plain _) state ∙ gone .run .ensures)
+    let is = c .with-plain .ensures in
+    let state = ap (λ q. q .plain) is in (
+      for-form _ _ _ e (ap (λ q. q .form) is ∙ e, ap (plain _) state ∙ gone .run .ensures),
+      kept _ _ e (ap (λ q. q .lookahead) is, ap (λ q. q .scaled) is),
+    )
 
 returns-2 : tie.Need-returns-2
 returns-2 c =
     let gone = c .before in
     let e = gone .before .enum-told2 .given .1 in
-    let (form, state) = c .with-lookahead .ensures in
-    for-form _ _ _ e (form ∙ e, ap (lookahead _) state ∙ gone .run2 .ensures)
+    let is = c .with-lookahead .ensures in
+    let state = ap (λ q. q .lookahead) is in (
+      for-form _ _ _ e (ap (λ q. q .form) is ∙ e, ap (lookahead _) state ∙ gone .run2 .ensures),
+      kept _ _ e (ap (λ q. q .plain) is, ap (λ q. q .scaled) is),
+    )
 
 returns-3 : tie.Need-returns-3
 returns-3 c =
     let gone = c .before in
     let e = gone .before .enum-told3 .given .1 in
-    let (form, state) = c .with-scaled .ensures in
-    for-form _ _ _ e (form ∙ e, ap (scaled _) state ∙ gone .run3 .ensures)
+    let is = c .with-scaled .ensures in
+    let state = ap (λ q. q .scaled) is in (
+      for-form _ _ _ e (ap (λ q. q .form) is ∙ e, ap (scaled _) state ∙ gone .run3 .ensures),
+      kept _ _ e (ap (λ q. q .plain) is, ap (λ q. q .lookahead) is),
+    )
 
 pub run-spec : {M : Type 1} → statement M
 run-spec =

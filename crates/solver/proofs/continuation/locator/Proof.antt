@@ -4,7 +4,6 @@ use Rattle.solver.specs.PlainView.{plain}
 use Rattle.solver.specs.LookaheadView.{lookahead}
 use Rattle.solver.specs.ScaledView.{scaled}
 use Rattle.solver.specs.Solver.{for-form}
-use Rattle.solver.specs.ContinuationEnd.{ended-locator}
 use borrow.Author.Needs.{needs}
 use Rattle.solver.proofs.continuation.locator.Statement.{statement}
 use Rattle.solver.proofs.continuation.locator.Tie as tie
@@ -20,18 +19,15 @@ enum-told-3 c = search needs
 
 returns : tie.Need-returns
 unfolding plain
-returns c f rounds n S ended are =
-    ended-locator rounds n S are f _ ended _ (λ r. for-form _ _ r (c .before .enum-told .given .1) refl)
+returns c r = for-form _ _ r (c .before .enum-told .given .1) refl
 
 returns-2 : tie.Need-returns-2
 unfolding lookahead
-returns-2 c f rounds n S ended are =
-    ended-locator rounds n S are f _ ended _ (λ r. for-form _ _ r (c .before .enum-told2 .given .1) refl)
+returns-2 c r = for-form _ _ r (c .before .enum-told2 .given .1) refl
 
 returns-3 : tie.Need-returns-3
 unfolding scaled
-returns-3 c f rounds n S ended are =
-    ended-locator rounds n S are f _ ended _ (λ r. for-form _ _ r (c .before .enum-told3 .given .1) refl)
+returns-3 c r = for-form _ _ r (c .before .enum-told3 .given .1) refl
 
 pub locator-spec : {M : Type 1} → statement M
 locator-spec = tie.close (tie.spec enum-told enum-told-2 enum-told-3 returns returns-2 returns-3)

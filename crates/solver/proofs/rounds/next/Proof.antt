@@ -31,7 +31,7 @@ returns c form n t =
     let at-p = at-if1 .before .before .before .before in
     let given = at-p .before .before .before .args in
     event-iterate form _ _ (few (given .syndromes .now)) n (given .w) t (at-if1 .if1 .taken) _ _
-    (c .before .swaps .ensures) (c .iterate .ensures)
+    (c .before .swaps .ensures) (c .iterate .ensures .0) (c .iterate .ensures .1)
 
 reach-requires : tie.Need-reach-requires
 reach-requires c κs =
@@ -60,7 +60,7 @@ returns-2 c form n t =
     let given = start .args in
     let more = start .pre .more (at .if1 .left) in
     event-enter form _ (given .lengths .now) (few (given .syndromes .now)) n (given .w) t (at .if1 .left) more _ _ _
-    (c .before .before .reach .ensures) (c .before .first .ensures) (c .enter .ensures)
+    (c .before .before .reach .ensures) (c .before .first .ensures) (c .enter .ensures .0) (c .enter .ensures .1)
 
 pub next-spec : {M : Type 1} → statement M
 next-spec =

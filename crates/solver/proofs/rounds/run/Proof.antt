@@ -1,9 +1,8 @@
 -- Each pass of the loop is the next event of the run.
 use Prim.Native.Nat.{_-_, _≤_}
-use mathlib.Core.Path.{sym, subst, _∙_}
+use mathlib.Core.Path.{refl, sym, subst, _∙_}
 use native.Mathlib.Omega.{arith}
 use lib.ListN.{length}
-use Rattle.solver.specs.Solver.{own-start}
 use Rattle.solver.specs.RoundsRun.{syndromes-of, rounds-of, first-none, few, Ran}
 use Rattle.solver.specs.RoundsEvent.{Arrived, event-start, event-going, event-ran, event-over, over-yes, over-no}
 use borrow.Author.Needs.{needs}
@@ -23,7 +22,7 @@ start-requires c κs = search needs
 loop-holds : tie.Need-loop-holds Inv-loop μ-loop
 loop-holds c =
     let given = c .before .before .before .args in (
-      event-start _ _ _ _ _ (first-none (given .syndromes .now)) (own-start (given .form) _ (c .start .ensures)),
+      event-start _ _ _ _ _ (first-none (given .syndromes .now)) refl (c .start .ensures .1),
       omega arith,
     )
 

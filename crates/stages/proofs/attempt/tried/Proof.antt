@@ -1,5 +1,5 @@
 -- The locator is a multiple of the measure's, and the length is the measure's.
-use Rattle.solver.specs.ContinuationEnd.{ended-length}
+use Rattle.solver.specs.ContinuationEnd.{ended-locator, ended-length}
 use borrow.Author.Needs.{needs}
 use Rattle.stages.proofs.attempt.tried.Statement.{statement}
 use Rattle.stages.proofs.attempt.tried.Tie as tie
@@ -19,7 +19,8 @@ settle-requires c κs = search needs
 returns : tie.Need-returns
 returns c = (
   c .settle .ensures .0,
-  λ f rounds ended are. c .settle .ensures .1 (c .before .before .locator .ensures f rounds _ _ ended are)
+  λ f rounds ended are. c .settle .ensures .1
+      (ended-locator rounds _ _ are f _ ended _ (c .before .before .locator .ensures))
       (ended-length rounds _ _ are f _ ended _ (c .before .length .ensures)),
 )
 

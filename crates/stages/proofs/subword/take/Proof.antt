@@ -9,7 +9,7 @@ returns : tie.Need-returns
 returns c =
     let at-slice-known = c .before .before .before .before in
     let given = at-slice-known .before in
-    λ f S o. took-none _ f _ _ S _ (given .args .a) o (unless _ (c .if1 .taken)) _
+    λ f S o. took-none _ f _ _ S _ (given .args .a) o (unless _ (c .if1 .taken))
 
 correct-requires : tie.Need-correct-requires
 correct-requires c κs = search needs

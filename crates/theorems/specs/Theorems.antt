@@ -1,0 +1,129 @@
+-- The headlines, one theorem each, about what `encode`, `decode` and `extract` promise. A list is the bytes of a
+-- buffer: b a profile, d data, c a block that is written, y one that is received, o what an output held before.
+--
+--   Bytes l           every entry is a byte
+--   Written p d c     the block c is a codeword of the profile p with the data d, and the only one
+--   Trip b d c y o e t   data d are written to c, and y is read to e, which has o bytes: t is what was answered, and if
+--                     y is c but for changes that can be restored, e is d
+--   Both f g b y o e k t   y is read to e in the form f and to k in the form g: t is what was handed back, and the two
+--                     are alike
+--
+-- Proved: what is written is the one codeword with the data (written-one); data that are written, changed within the
+-- condition of FORMAT 6.11 and read are the same, byte for byte (round-trip, trip); two readings of the same bytes end
+-- alike (both).
+use Prim.Native.Nat.{ℕ, zero, suc, _<_}
+use mathlib.Core.Path.{_≡_, refl, sym, ap, _∙_, subst}
+use mathlib.Core.List.{List, [], _∷_, map}
+use native.Mathlib.Omega.{arith}
+use lib.ListN.{length, getD, length-map}
+use Rattle.field.specs.Field.{F, of, byte, byte-lt}
+use Rattle.series.specs.Array.{bytes, bytes-entry, bytes-word, word-bytes}
+use Rattle.profile.specs.declared.Profile.{Profile}
+use Rattle.profile.specs.declared.Parsed.{Parsed}
+use Rattle.profile.specs.declared.Parsed.the-variants.{Accepted, Refused}
+use Rattle.profile.specs.declared.Answer.the-variants as answer
+use Rattle.profile.specs.declared.questions.Caller.the-variants.{Encoder, Card}
+use Rattle.profile.specs.Definition.{answer-of, block-size, data-size}
+use Rattle.profile.specs.Questions.{profile-of, writing}
+use Rattle.profile.specs.QuestionsLaws.{admitted-profile}
+use Rattle.profile.specs.Valid.{Valid, admitted-valid, writing-passed}
+use Rattle.code.specs.Definition.{Encodes}
+use Rattle.code.specs.Encoding.{encoding-some}
+use Rattle.block.specs.Gather.{data-of, data-written}
+use Rattle.solver.specs.declared.Form.{Form}
+use Rattle.staged_decoding.specs.Restorable.{Restorable}
+use Rattle.staged_decoding.specs.Restoring.{restoring-bytes}
+use Rattle.encoder.specs.Definition.{found, written}
+use Rattle.encoder.specs.Laws.{written-is}
+use Rattle.decoder.specs.declared.prepared.Reading.{Reading}
+use Rattle.decoder.specs.Definition.{reading, extraction, answer-to, data-in, report-of, Gives}
+use Rattle.decoder.specs.Theorems.{extraction-is, Alike, alike}
+use Rattle.theorems.specs.declared.Trip.{Trip as Answers}
+use Rattle.theorems.specs.declared.Pair.{Pair}
+
+abbrev pub Bytes : List ℕ → Type 0
+Bytes l = (i : ℕ) → getD l i 0 < 256
+
+-- ---- written
+
+pub record Written (p : Profile) (d c : List ℕ) : Type 0 where
+  pub size : length c ≡ block-size p
+  pub small : Bytes c
+  pub encodes : Encodes p (bytes d) (bytes c)
+  pub one : (s : List ℕ) → length s ≡ block-size p → Bytes s → Encodes p (bytes d) (bytes s) → s ≡ c
+
+small-word : (w : List F) → Bytes (map byte w)
+small-word [] i = omega arith
+small-word (x ∷ w) zero = byte-lt x
+small-word (x ∷ w) (suc i) = small-word w i
+
+-- what `encode` writes wherever it accepts
+pub written-one : (p : Profile) (b d o : List ℕ) → Bytes b → profile-of b ≡ Accepted p
+    → answer-of (writing b (length d) (length o)) ≡ answer.Accepted
+    → Valid p × (length d ≡ data-size p) × Written p d (written (writing b (length d) (length o)) d o)
+written-one p b d o small profile says = go (writing b (length d) (length o)) refl says
+  where
+    go : (a : Parsed) → writing b (length d) (length o) ≡ a → answer-of a ≡ answer.Accepted
+        → Valid p × (length d ≡ data-size p) × Written p d (written (writing b (length d) (length o)) d o)
+    go (Refused q) e y = let z : _≡_ {A = ℕ} 0 1 = cc in absurd (omega arith)
+    go (Accepted q) e y =
+        let mine : profile-of b ≡ Accepted q = admitted-profile Encoder b (length d) (length o) 0 q e in
+        let same : q ≡ p = cc in
+        let is : writing b (length d) (length o) ≡ Accepted p = e ∙ ap Accepted same in
+        let ok = admitted-valid Card b 0 0 0 p profile (omega (arith, small 2)) in
+        let (_, size, _) = writing-passed b (length d) (length o) p is (ok .length .1) in
+        let (w, l, f, found-w) = encoding-some p ok (map of d) in
+        let c : written (writing b (length d) (length o)) d o ≡ map byte w =
+        ap (λ a. written a d o) is ∙ ap (found o) found-w in (
+          ok,
+          size,
+          record {
+            size = ap length c ∙ length-map w byte ∙ l;
+            small = subst Bytes (sym c) (small-word w);
+            encodes = rw (c, bytes-word w, bytes-entry d) f;
+            one = λ s long bytes-s code. written-is p ok _ d o s is long bytes-s code;
+          },
+        )
+
+-- ---- the round trip
+
+-- c is what was written, y what was received, in whatever form it is read
+pub round-trip : (p : Profile) (b d c y e : List ℕ) → Valid p → profile-of b ≡ Accepted p → length d ≡ data-size p
+    → Bytes d → Written p d c → length y ≡ block-size p → length e ≡ data-size p → Restorable p (bytes c) (bytes y)
+    → (answer-to (extraction b y (length e)) ≡ answer.Accepted) × (data-in (extraction b y (length e)) e ≡ d)
+round-trip p b d c y e ok profile size small w long room r =
+    let (x, decoded, _) = restoring-bytes p ok c y (w .size) long r in
+    let is = extraction-is b p y (length e) profile long room in
+    let block = word-bytes (block-size p) c (w .size) (w .small) in
+    rw (is, decoded, block)
+    (refl, data-written p d c (record { valid = ok; size = w .size }) size small (w .small) (w .encodes))
+
+abbrev pub Trip : (b d c y : List ℕ) → ℕ → List ℕ → Answers → Type 0
+Trip b d c y o e t = t .written ≡ answer.Accepted → (p : Profile) → profile-of b ≡ Accepted p
+    → length y ≡ block-size p → o ≡ data-size p → Restorable p (bytes c) (bytes y)
+    → (t .read .answer ≡ answer.Accepted) × (e ≡ d)
+
+-- from the promises of `encode` and `extract`: o and q are what their outputs held
+pub trip : (b d o c y q e : List ℕ) (t : Answers) → Bytes b → Bytes d
+    → t .written ≡ answer-of (writing b (length d) (length o))
+    → c ≡ written (writing b (length d) (length o)) d o
+    → t .read .answer ≡ answer-to (extraction b y (length q))
+    → e ≡ data-in (extraction b y (length q)) q
+    → Trip b d c y (length q) e t
+trip b d o c y q e t small-b small-d wrote block read symbols says p profile long room r =
+    let (ok, size, w) = written-one p b d o small-b profile (sym wrote ∙ says) in
+    let (accepted, same) =
+    round-trip p b d c y q ok profile size small-d (subst (Written p d) (sym block) w) long room r in
+    (read ∙ accepted, symbols ∙ same)
+
+-- ---- alike
+
+-- the promises of `decode` are the fields of Gives
+abbrev pub Both : (f g : Form) (b y : List ℕ) → ℕ → (e k : List ℕ) → Pair → Type 0
+Both f g b y o e k t = Alike f g (report-of (reading b y o)) e k (t .one) (t .other)
+
+pub both : (f g : Form) (b y o q e k : List ℕ) (a c : Reading) → q ≡ o
+    → Gives f (reading b y (length o)) o e a → Gives g (reading b y (length q)) q k c
+    → Alike f g (report-of (reading b y (length o))) e k a c
+both f g b y o q e k a c same x z =
+    alike f g _ o e k a c x (subst (λ (o : List ℕ). Gives g (reading b y (length o)) o k c) same z)
