@@ -181,8 +181,14 @@ def data_cases(c, rng, some):
     for profile in [2, 1, 5, 1, 2, 0], [9, 1, 5, 1, 2, 0, 0], [2, 2, 5, 1, 2, 2, 0], [2, 1, 5, 2, 2, 0, 0], \
             [2, 1, 4, 1, 2, 0, 0]:
         numbers_seen.add(c.data(bytes(profile), some(10), 4)[0])
-    c.data(bytes([2, 1, 26, 1, 2, 0, 0]), some(52), 46)
-    assert {0, 1, 2, 3, 4, 5, 6, 7, 8} <= numbers_seen, numbers_seen
+    profile = profile_of(2, 1, 26, (1, 2))
+    p = gii.read_profile(profile)[1]
+    while 9 not in numbers_seen:
+        block = bytearray(gii.write(profile, some(p.data_size), p.size)[1])
+        for k in rng.sample(range(p.size), 4):
+            block[k] ^= rng.randint(1, 255)
+        numbers_seen.add(c.data(profile, block, p.data_size)[0])
+    assert numbers_seen == set(range(10)), numbers_seen
 
 
 def make():

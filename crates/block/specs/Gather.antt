@@ -19,8 +19,8 @@ use Rattle.series.specs.Array.{bytes, read-at}
 use Rattle.series.specs.Part.{splice}
 use Rattle.profile.specs.declared.Profile.{Profile}
 use Rattle.profile.specs.declared.Parsed.the-variants.{Accepted}
-use Rattle.profile.specs.Definition.{checks, block-size, data-size, data-length, data-start}
-use Rattle.profile.specs.Valid.{Valid, checks-below, data-size-is, data-start-most}
+use Rattle.profile.specs.Definition.{checks, data-size, data-length, data-start}
+use Rattle.profile.specs.Valid.{checks-below, data-size-is, data-start-most}
 use Rattle.profile.specs.FetchDefinition.{part}
 use Rattle.profile.specs.FetchLaws.{Within, end-in}
 use Rattle.code.specs.Definition.{subword, Encodes}

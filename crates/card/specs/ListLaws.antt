@@ -14,18 +14,17 @@ use native.Mathlib.Omega.{arith}
 use lib.ListN.{length, take, drop, take-append-drop}
 use lib.Seq.{length-take-le, take-all, take-at, drop-at, drop-drop, drop-length, drop-nil}
 use Rattle.stream.specs.declared.Stream.{Stream}
-use Rattle.stream.specs.Trace.{Trace}
 use Rattle.stream.specs.Definition.{Opened, Reads, Writes}
 use Rattle.card.specs.declared.section.Section.{Section}
 use Rattle.card.specs.declared.section.Section.the-variants.{Size, Bytes, Count, Block, End, Over}
 use Rattle.card.specs.declared.section.Judged.{Judged}
-use Rattle.card.specs.SectionDefinition.{good, known, size, wanted, ends, over, left, silent, refusal}
+use Rattle.card.specs.SectionDefinition.{good, size, wanted, ends, over, left, silent, refusal}
 use Rattle.card.specs.SectionLaws.{good-known}
 use Rattle.card.specs.PrintedDefinition.{printed}
 use Rattle.card.specs.PrintedStep.{cut, step, rest, Judges}
 use Rattle.card.specs.PrintedFalls.{some-left}
 use Rattle.card.specs.PrintedWhole.{step-cut}
-use Rattle.card.specs.ListDefinition.{Rest, Starts, Lists, Reached}
+use Rattle.card.specs.ListDefinition.{Rest, Lists, Reached}
 
 pub reached-open : (x : Stream) → Opened x → Reached Size x
 reached-open x h = record {

@@ -14,7 +14,7 @@ use Prim.Native.Nat.{ℕ, _≤_, _<_}
 use mathlib.Core.Path.{_≡_}
 use mathlib.Core.Bool.{true, false}
 use mathlib.Core.List.{List, [], _++_}
-use lib.ListN.{length, take}
+use lib.ListN.{take}
 use Rattle.stream.specs.declared.Stream.{Stream}
 use Rattle.stream.specs.Trace.{Trace}
 

@@ -7,7 +7,7 @@
 -- and goes on where they change (trace-same), a read puts bytes into an array (trace-took) and a write takes bytes
 -- (trace-gave): src/lib.rt uses these at the calls alone, and whoever holds a Trace has it from there.
 use Prim.Native.Nat.{ℕ, _+_, _%_, _^_}
-use mathlib.Core.Path.{_≡_, refl, sym, ap, _∙_}
+use mathlib.Core.Path.{_≡_, sym, ap, _∙_}
 use mathlib.Core.List.{List, [], _++_}
 use native.Mathlib.Nat.{mod-add-mod}
 use lib.ListN.{length, length-append}

@@ -29,7 +29,7 @@ use Rattle.profile.specs.QuestionsLaws.{admitted-profile}
 use Rattle.profile.specs.Valid.{Valid, admitted-valid, writing-passed}
 use Rattle.code.specs.Definition.{Encodes}
 use Rattle.code.specs.Encoding.{encoding-some}
-use Rattle.block.specs.Gather.{data-of, data-written}
+use Rattle.block.specs.Gather.{data-written}
 use Rattle.solver.specs.declared.Form.{Form}
 use Rattle.staged_decoding.specs.Restorable.{Restorable}
 use Rattle.staged_decoding.specs.Restoring.{restoring-bytes}

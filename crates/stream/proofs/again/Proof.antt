@@ -1,7 +1,6 @@
 -- A call is made again if it may be.
 use mathlib.Core.Path.{sym}
 use mathlib.Core.Bool.{true≢false}
-use native.Mathlib.Omega.{arith}
 use borrow.Author.Needs.{needs}
 use Rattle.stream.proofs.again.Statement.{statement}
 use Rattle.stream.proofs.again.Tie as tie
