@@ -4,7 +4,8 @@
 -- stands where its start says (part-stands), and only the empty one has size 0 (size-empty); an accepted fetch has an
 -- accepted profile (fetched-small, start-accepted, start-refused); data are read by reading the block (gives-zero,
 -- keeps-other, data-read, lent-front, extracted-fits, extracted-small, read-refused, read-given); any other number
--- names the plain form (form-other); a buffer is filled with what a reading tells, if that is no refusal (numbers-filled).
+-- names the plain form (form-other); a buffer is filled with what a reading tells, if that is no refusal
+-- (numbers-filled).
 use Prim.Native.Nat.{ℕ, zero, suc, _+_, _-_, _*_, _≤_, _<_}
 use mathlib.Core.Path.{_≡_, refl, sym, ap, ap₂, _∙_, fun-ext}
 use mathlib.Core.List.{List, [], _∷_, _++_}

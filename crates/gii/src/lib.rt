@@ -101,8 +101,8 @@ fn refuse(q: Refusal, out: &mut [u8]) -> u16
     crate::numbers::result_of(Answer::Refused(q))
 }
 
-// Reads the data of a block by gii_decode: with one caller of the decoder the compiler sees which parts of a report
-// nobody wants. A second caller, `decoder::extract`, made gii_decode slower by 7 % where every strip has one change.
+// Reads the data of a block by gii_decode, and not by `decoder::extract`: with one caller of the decoder the compiler
+// sees which parts of a report nobody wants.
 fn read_data(p: Profile, profile: &[u8], block: &[u8], out: &mut [u8]) -> u16
     requires { ⌜ extracting (now profile) (length (now block)) (length (now out)) ≡ Parsed.Accepted p ⌝ }
     ensures result { λ n. ⌜ n ≡ result-number

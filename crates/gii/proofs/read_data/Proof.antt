@@ -50,8 +50,8 @@ returns c =
     let room = length-take-le (length (a .block .now)) (at-blank .blank .result)
     (omega (arith, at-blank .blank .ensures, small)) in
     let (number, _) = decode .gii-decode .ensures in
-    read-refused (a .profile .now) (a .block .now) _ (a .p) (at-known .before .pre) byte (decode .gii-decode .result) _ []
-    (a .out .now) room number (omega arith)
+    read-refused (a .profile .now) (a .block .now) _ (a .p) (at-known .before .pre) byte (decode .gii-decode .result) _
+    [] (a .out .now) room number (omega arith)
 
 array-share-prefix-whole : tie.Need-array-share-prefix-whole
 array-share-prefix-whole c =
