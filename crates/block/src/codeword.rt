@@ -29,7 +29,7 @@ pub fn further(p: Profile) -> usize
 }
 
 // The tables for a profile: for the roots of the subwords, and for the further roots of nested words. They serve any
-// number of blocks.
+// number of blocks. Words of the arrays that are no table's are left open, as by `divider::generator::table`.
 pub fn tables(p: Profile, t: &mut [u64], u: &mut [u64])
     requires { ⌜ Valid p × (length (now t) ≡ 1536) × (length (now u) ≡ 1536) ⌝ }
     ensures { λ _. ⌜ Tables p (now (t .exit)) (now (u .exit)) ⌝ }

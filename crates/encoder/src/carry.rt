@@ -82,7 +82,7 @@ fn carried(p: Profile, i: usize, block: &[u8]) -> [u8; POSITIONS]
     word
 }
 
-// Puts the data plus e into the word, from position k on.
+// Puts the data plus e into the word, from position k on; nothing is promised of the first k.
 pub fn place(k: usize, e: &[u8], input: &[u8], word: &mut [u8])
     requires { ⌜ (length (now word) ≡ k + length (now input)) × (length (now e) ≡ length (now word)) ⌝ }
     ensures { λ _. ⌜ drop k (bytes (now (word .exit))) ≡
@@ -107,7 +107,7 @@ fn fill(t: &[u64], k: usize, e: &[u8], input: &[u8], word: &mut [u8])
     kernel::add(e, word);
 }
 
-// Writes subword i, once those above it are written.
+// Writes subword i, once those above it are written; nothing is promised of those below it, which are written later.
 pub fn write_subword(p: Profile, t: &[u64], i: usize, input: &[u8], out: &mut [u8])
     requires { ⌜ Fits p (now out) × (i < p .subwords) × Table 0 (Checks p i) (now t)
         × (length (now input) ≡ DataLength p i) ⌝ }

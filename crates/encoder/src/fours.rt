@@ -66,7 +66,7 @@ fn write_known(p: Profile, k: usize, r: &[u8], i: usize, input: &[u8], out: &mut
     crate::carry::place(0, &zeros[..n], &word[..n], &mut out[a..b]);
 }
 
-// Writes subwords i to i + 3 with these data, from the last to the first.
+// Writes subwords i to i + 3 with these data, from the last to the first; nothing is promised of those below.
 pub fn write_four(
     p: Profile,
     t: &[u64],

@@ -202,7 +202,8 @@ fn write(s: Stream, buf: &[u8]) -> Moved
     }
 }
 
-// Reads until the array is full, the input ends or a read fails.
+// Reads until the array is full, the input ends or a read fails. What it holds past the bytes that were read is left
+// open.
 pub fn fill(s: Stream, buf: &mut [u8]) -> Moved
     ensures { λ r. ⌜ Reads (length (now (buf .exit))) s (now (buf .exit)) (r .size) (r .stream) ⌝ }
     ensures counts { λ r. ⌜ Counts (r .size) (now (buf .exit)) ⌝ }
