@@ -18,7 +18,8 @@
  *
  * The seven bytes of a profile are m (how many strips), v (how many nested sums), n (bytes of a strip) and t0, t1, t2,
  * t3 (strengths). A block has m x n bytes, its strips one after the other; each strip begins with its check bytes, and
- * its other bytes are data. At stage r of reading a strip with at most t_r changed bytes is mended.
+ * its other bytes are data. At stage r of reading a strip with at most t_r changed bytes is mended. A profile of 0
+ * bytes, whose pointer may be NULL, stands for 8 3 255 14 16 18 24: 1784 data bytes in a block of 2040.
  */
 #ifndef GII_H
 #define GII_H
@@ -33,7 +34,7 @@ extern "C" {
 /* The version of this interface. Within it names, numbers and sizes are only ever added, and a report only grows. */
 #define GII_VERSION 1
 
-/* The bytes of a profile and of a report, and the most bytes of a block and of its data. */
+/* The bytes of a profile that is not left out and of a report, and the most bytes of a block and of its data. */
 enum {
     GII_PROFILE_BYTES = 7,
     GII_REPORT_BYTES = 27,
@@ -47,7 +48,7 @@ enum {
  */
 enum {
     GII_OK = 0,               /* every question was answered by yes */
-    GII_E_PROFILE_BYTES = 1,  /* has the profile seven bytes? */
+    GII_E_PROFILE_BYTES = 1,  /* has the profile seven bytes, or none? */
     GII_E_STRIPS = 2,         /* is m at least 1 and at most 8? */
     GII_E_NESTED = 3,         /* is v at most 3, and less than m? */
     GII_E_STRENGTHS = 4,      /* are the strengths in order: 1 <= t0 < t1 <= .. <= tv <= 24, and 0 after tv? */
@@ -121,7 +122,7 @@ static inline uint8_t gii_stage(uint16_t result) { return (uint8_t)(result >> 8)
 static inline const char *gii_message(uint8_t number) {
     switch (number) {
     case GII_OK: return "accepted";
-    case GII_E_PROFILE_BYTES: return "the profile has not seven bytes";
+    case GII_E_PROFILE_BYTES: return "the profile has neither seven bytes nor none";
     case GII_E_STRIPS: return "the number of strips is not from 1 to 8";
     case GII_E_NESTED: return "the number of nested sums is above 3, or not below the number of strips";
     case GII_E_STRENGTHS: return "the strengths are not in order";

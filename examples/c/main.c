@@ -60,6 +60,11 @@ int main(void) {
     printf("fetch %d: %zu bytes from %zu, %s\n", gii_fetch(profile, sizeof profile, written, size, 1), part, start,
            memcmp(written + start, data + before, part) == 0 ? "the data" : "not the data");
 
+    /* No bytes stand for this profile. */
+    int number = gii_encode(NULL, 0, data, data_size, damaged, size);
+    printf("no profile: sizes %zu %zu, write %d, %s\n", gii_data_size(NULL, 0), gii_block_size(NULL, 0), number,
+           memcmp(damaged, written, size) == 0 ? "the same block" : "another block");
+
     /* Three strips with more changes than any strength: after stage 1 there may be two. */
     memcpy(damaged, written, size);
     damage(damaged, 1, 30);
@@ -70,7 +75,7 @@ int main(void) {
     printf("refused %d: no strip 8\n", gii_fetch(profile, sizeof profile, written, size, 8));
     printf("refused %d: a profile of six bytes, size %zu\n",
            gii_encode(profile, 6, data, data_size, written, size), gii_data_size(profile, 6));
-    printf("refused %d: nothing at all\n", gii_decode(NULL, 0, NULL, 0, NULL, 0, GII_PLAIN, NULL, 0));
+    printf("refused %d: no profile, but no block either\n", gii_decode(NULL, 0, NULL, 0, NULL, 0, GII_PLAIN, NULL, 0));
 
     free(data);
     free(written);

@@ -196,6 +196,11 @@ fn main() {
         Err(number) => println!("fetch {number}"),
     }
 
+    // No bytes stand for this profile.
+    let number = gii::encode(&[], &data, &mut damaged);
+    let same = if damaged == written { "the same block" } else { "another block" };
+    println!("no profile: sizes {} {}, write {number}, {same}", gii::data_size(&[]), gii::block_size(&[]));
+
     // Three strips with more changes than any strength: after stage 1 there may be two.
     damaged.copy_from_slice(&written);
     damage(&mut damaged, 1, 30);
@@ -209,6 +214,6 @@ fn main() {
     let number = gii::encode(&PROFILE[..6], &data, &mut written);
     println!("refused {number}: a profile of six bytes, size {}", gii::data_size(&PROFILE[..6]));
     if let Err(refusal) = gii::decode(&[], &[], &mut [], gii::PLAIN, &mut []) {
-        println!("refused {}: nothing at all", refusal.number);
+        println!("refused {}: no profile, but no block either", refusal.number);
     }
 }

@@ -1,11 +1,11 @@
 """test_card: the model's cards of seed 7, FORMAT's sample card cut at every byte and followed by one byte too many, and
-a card of hundreds of blocks, whole, cut in its last block and followed by one byte too many. The lists are what the
-model's card program prints."""
+a card of hundreds of blocks, whole, cut in its last block and followed by one byte too many, and cards without a
+profile. The lists are what the model's card program prints."""
 import random
 
 import cases
 import gii
-from .common import number, sized, stored
+from .common import LANDED, number, sized, stored
 
 BLOCKS = 500                                     # more than a byte can number
 PROFILE = bytes([2, 1, 5, 1, 2, 0, 0])           # FORMAT's small profile: blocks of ten bytes
@@ -29,11 +29,25 @@ def long_cards():
     return [card, card[:-1], card + b'\0']
 
 
+def no_profile_cards():
+    """Cards whose first byte is 0: cut in and after each section, and followed by one byte too many."""
+    rng = random.Random('card without a profile/7')
+    _, profile = gii.read_profile(b'', LANDED)
+    block = gii.write_triangular(profile, bytes(rng.randrange(256) for _ in range(profile.data_size)))
+    changed = bytearray(block)
+    for place in range(20):
+        changed[place] ^= rng.randint(1, 255)
+    one = bytes([0, 0, 1]) + changed
+    cut = [one[:k] for k in (1, 2, 3, 4, 8, profile.size + 2)]
+    return cut + [one, one + b'\0', bytes([0, 0, 0]), bytes([0, 0, 0, 7]), bytes([0, 0, 2]) + block + changed]
+
+
 def make():
     with stored(cases.cards) as folder:
         cards = {path.stem: path.read_bytes() for path in sorted((folder / 'cards').glob('*.bin'))}
     sample = cards['sample']
     every = list(cards.values()) + [sample[:k] for k in range(len(sample))] + [sample + b'\0'] + long_cards()
+    every += no_profile_cards()
     stdin = number(len(every)) + b''.join(sized(card) for card in every)
-    stdout = ''.join('card of %d\n' % len(card) + gii.card_program(card) for card in every)
+    stdout = ''.join('card of %d\n' % len(card) + gii.card_program(card, LANDED) for card in every)
     return {'stdin': stdin, 'stdout': stdout.encode()}

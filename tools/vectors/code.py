@@ -4,7 +4,7 @@ import random
 
 import cases
 import gii
-from .common import number, numbers, rows, sized, spaced, stored, text
+from .common import LANDED, number, numbers, rows, sized, spaced, stored, text, wanted
 
 PROFILE, WRITE, FETCH, DATA = 0, 1, 2, 3
 SAMPLE = bytes([2, 1, 5, 1, 2, 0, 0])
@@ -22,30 +22,30 @@ class Cases:
         self.lines.append('%s%s |%s' % (name, spaced(profile), line))
 
     def profile(self, profile):
-        refusal, p = gii.read_profile(profile)
+        refusal, p = gii.read_profile(profile, LANDED)
         self.add(PROFILE, 'profile', bytes(profile), b'', spaced([refusal, p.data_size if p else 0]))
 
     def write(self, profile, data, size):
-        refusal, block = gii.write(profile, data, size)
+        refusal, block = gii.write(profile, data, size, LANDED)
         out = bytes([BEFORE]) * size if refusal else block
         line = '%s | %d |%s' % (spaced([len(data), size]), refusal, spaced(out))
         self.add(WRITE, 'write', bytes(profile), sized(data) + number(size), line)
         return block
 
     def fetch(self, profile, block, i):
-        refusal, start, end = gii.fetch(profile, len(block), i)
+        refusal, start, end = gii.fetch(profile, len(block), i, LANDED)
         line = '%s | %d |%s' % (spaced([len(block), i]), refusal, spaced(block[start:end]))
         self.add(FETCH, 'fetch', bytes(profile), sized(block) + number(i), line)
 
     def data(self, profile, block, size):
-        refusal, p = gii.read_profile(profile)
+        refusal, p = gii.read_profile(profile, LANDED)
         out = bytes([BEFORE]) * size
         if p and len(block) != p.size:
             refusal = 6
         elif p and size != p.data_size:
             refusal = 7
         elif p:
-            answer = gii.decode(p, bytes(block))
+            answer = gii.decode(p, bytes(block), rules=LANDED)
             refusal = answer.number
             if not refusal:
                 out = bytes(answer.block[k] for k in gii.data_places(p))
@@ -63,16 +63,16 @@ def samples(c):
 
 
 def model_cases(c, some):
-    """The model's profiles, writes and fetches as of the base, and its strips, which are blocks of one subword."""
+    """The model's profiles, writes and fetches, and its strips, which are blocks of one subword."""
     with stored(cases.profiles, cases.writer, cases.fetches, cases.rs_strips) as folder:
-        profiles = [profile for as_of, _, profile, _, _ in rows(folder / 'profiles.txt') if as_of == '0']
+        profiles = [profile for as_of, _, profile, _, _ in rows(folder / 'profiles.txt') if wanted(as_of)]
         for profile in dict.fromkeys(profiles):
             c.profile(bytes(numbers(profile)))
         for as_of, profile, data, size, _, _ in rows(folder / 'writer.txt'):
-            if as_of == '0':
+            if wanted(as_of):
                 c.write(bytes(numbers(profile)), bytes(numbers(data)), int(size))
         for as_of, profile, size, i, _, _, _ in rows(folder / 'fetch.txt'):
-            if as_of == '0':
+            if wanted(as_of):
                 c.fetch(bytes(numbers(profile)), some(int(size)), int(i))
         for t, n, f, data, strip in rows(folder / 'rs_strips.txt'):
             if f == '1':
@@ -191,6 +191,36 @@ def data_cases(c, rng, some):
     assert numbers_seen == set(range(10)), numbers_seen
 
 
+def no_profile(c, rng):
+    """A profile of no bytes, for every caller, beside the seven that it stands for: sizes that are right and wrong,
+    subwords that are there and not, blocks with few and with many changes."""
+    p = gii.read_profile(b'', LANDED)[1]
+    numbers_seen = set()
+
+    def some(k):
+        return bytes(rng.randrange(256) for _ in range(k))
+
+    for profile in b'', gii.FACTORY:
+        c.profile(profile)
+        for k, size in (p.data_size, p.size - 1), (p.data_size - 1, p.size), (p.size, p.size), (0, 0):
+            c.write(profile, some(k), size)
+        given = some(p.data_size)
+        block = c.write(profile, given, p.size)
+        for i in 0, 2, 3, 7, 8, 255:
+            c.fetch(profile, block, i)
+        c.fetch(profile, block[1:], 8)
+        for changes in 0, p.t[0], p.t[0] + 1, p.t[3], p.t[3] + 1:
+            received = bytearray(block)
+            for k in rng.sample(range(p.n), changes):
+                received[5 * p.n + k] ^= rng.randint(1, 255)
+            refusal, out = c.data(profile, received, p.data_size)
+            assert out == given or changes > p.t[3]
+            numbers_seen.add(refusal)
+        for size, room in (p.size - 1, p.data_size), (p.size, p.size), (0, 0):
+            numbers_seen.add(c.data(profile, some(size), room)[0])
+    assert numbers_seen == {0, 6, 7, 8}, numbers_seen
+
+
 def make():
     c = Cases()
     rng = random.Random('code_vectors/1')
@@ -206,4 +236,5 @@ def make():
     random_writes(c, rng, some)
     refusals(c, some)
     data_cases(c, random.Random('code_vectors/data'), some)
+    no_profile(c, random.Random('code_vectors/no profile'))
     return {'stdin': number(len(c.bytes)) + b''.join(c.bytes), 'stdout': text(c.lines)}

@@ -1,12 +1,14 @@
-"""What the makers share: the model's cases of seed 7, the forms' names, bytes and text as the programs read and print
-them."""
+"""What the makers share: the requests that have landed, the model's cases of seed 7, the forms' names, bytes and text
+as the programs read and print them."""
 import contextlib
 import io
 import pathlib
 import tempfile
 
 import cases
+import gii
 
+LANDED = gii.Rules(requests={2})     # the requests that have landed: all answers are judged with just these
 FORMS = {'plain': 'plain', 'ahead': 'lookahead', 'scaled': 'scaled'}     # the model's names of the forms, and ours
 LOOKAHEAD_HELD = ('gamma_S', 'delta_S', 'theta_S', 'g1', 'g2', 'h1', 'h2')
 SCALED_HELD = ('g', 'rho', 'xi', 'rho_S', 'xi_S')
@@ -18,8 +20,13 @@ def stored(*kinds):
     """A folder with the model's cases of these kinds."""
     with tempfile.TemporaryDirectory() as folder:
         with contextlib.redirect_stdout(io.StringIO()):
-            cases.make(7, folder, kinds)
+            cases.make(7, folder, kinds, LANDED)
         yield pathlib.Path(folder)
+
+
+def wanted(as_of):
+    """Whether a case that was made for this request is one of the base, or of a request that has landed."""
+    return as_of == '0' or LANDED.has(int(as_of))
 
 
 def rows(path):

@@ -1,6 +1,6 @@
 """test_decode: blocks that are read, with reports and solver states.
 
-- the model's readings of seed 7, as of the base: answer, report and block as they stand there;
+- the model's readings of seed 7: answer, report and block as they stand there;
 - the model's states of seed 7: as they stand there;
 - blocks made here, from a fixed generator: what the model answers in each form, with another way of settling agreeing;
 - strips of libfec, from libfec_strips.c: libfec's answer, with the model agreeing.
@@ -14,7 +14,7 @@ import tempfile
 
 import cases
 import gii
-from .common import FORMS, HELD, number, numbers, rows, sized, spaced, stored, text, trimmed
+from .common import FORMS, HELD, LANDED, number, numbers, rows, sized, spaced, stored, text, trimmed, wanted
 
 
 # ---- what is expected: (number, stage, last, changed, lines, block)
@@ -40,8 +40,9 @@ def state_fields(form, iterations, st):
 
 def model(profile, block, size):
     """The model's reading in each form. They are alike but for the states, and a second way of settling agrees."""
-    read = {form: gii.read(profile, block, size, form) for form in FORMS}
-    other = gii.read(profile, block, size, settle=lambda S, t, n, f, marks: gii.settle_peterson(S, t, n, f))
+    read = {form: gii.read(profile, block, size, form, LANDED) for form in FORMS}
+    other = gii.read(profile, block, size, rules=LANDED,
+                     settle=lambda S, t, n, f, marks: gii.settle_peterson(S, t, n, f))
     assert all(answer(a) == answer(other) for a in read.values())
     return read
 
@@ -75,7 +76,8 @@ class Cases:
         read = model(profile, block, size)
         of = None
         if states and read['plain'].number == 0:
-            of = {form: {i: state_fields(form, 2 * profile[3 + line[2]], a.states[i])
+            t = gii.read_profile(profile, LANDED)[1].t
+            of = {form: {i: state_fields(form, 2 * t[line[2]], a.states[i])
                          for i, line in enumerate(a.lines) if line[0] != 'clean'} for form, a in read.items()}
         self.add(profile, block, size, answer(read['plain']), of)
 
@@ -85,7 +87,7 @@ class Cases:
 def model_readings(c, folder):
     for row in rows(folder / 'reader.txt'):
         as_of, profile, marks, size, block, refused, stage, last, changed, _, said, _, mended = row
-        if as_of != '0' or marks != '-':
+        if not wanted(as_of) or marks != '-':
             continue
         profile, block, size = bytes(numbers(profile)), bytes(numbers(block)), int(size)
         if refused == '0':
@@ -115,7 +117,7 @@ def model_states(c, folder):
 # ---- cases made here
 
 def codeword(rng, profile):
-    p = gii.read_profile(bytes(profile))[1]
+    p = gii.read_profile(profile, LANDED)[1]
     return p, gii.write_triangular(p, bytes(rng.randrange(256) for _ in range(p.data_size)))
 
 
@@ -152,7 +154,7 @@ def samples(c, rng):
 def questions(c, rng):
     """Blocks that are refused by each of the questions 1 to 7, some of them at fault for later ones too."""
     good = [2, 1, 5, 1, 2, 0, 0]
-    for profile in [], [2], [2, 1, 5, 1, 2, 0], good + [0], good + [1], good + good, [9] * 6, [0] * 20:          # 1
+    for profile in [2], [2, 1, 5, 1, 2, 0], good + [0], good + [1], good + good, [9] * 6, [0] * 20:          # 1
         for k, size in (10, 10), (0, 0), (10, 9):
             c.read(profile, bytes(k), size)
     for m in 0, 9, 10, 128, 255:                                                                                # 2
@@ -258,6 +260,19 @@ def made(c, rng):
             beyond(c, rng, profile)
 
 
+def no_profile(c, rng):
+    """A profile of no bytes: readings that end after each stage, and sizes that are wrong."""
+    p, w = codeword(rng, b'')
+    c.read(b'', w, states=True)
+    for r in range(p.v + 1):
+        ending(c, rng, b'', r)
+        failing(c, rng, b'', r)
+    for block in b'', bytes(10), w[:-1]:
+        c.read(b'', block)
+    for size in 0, p.size - 1, p.data_size:
+        c.read(b'', w, size)
+
+
 # ---- libfec's strips
 
 def libfec_strips():
@@ -291,5 +306,6 @@ def make():
         model_readings(c, folder)
         model_states(c, folder)
     made(c, rng)
+    no_profile(c, random.Random('decode_vectors/no profile'))
     strips(c, lines)
     return {'stdin': number(len(c.bytes)) + b''.join(c.bytes), 'stdout': text(c.lines)}

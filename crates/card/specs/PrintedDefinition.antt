@@ -4,19 +4,19 @@
 --   end c            what is printed where the card has to end
 --   blocks p k i c   what is printed for k blocks of the profile p, the first of which has the number i
 --   counted p c      .. for the number of blocks, and the blocks
---   profiled c       .. for the seven bytes of a profile, and what follows them
+--   profiled n c     .. for the n bytes of a profile, and what follows them
 --   printed c        the list that is printed for a card
 use Prim.Native.Nat.{ℕ, zero, suc, _+_, _*_}
 use mathlib.Core.Bool.{cond}
 use mathlib.Core.List.{List, [], _++_}
-use lib.Dec.{eqb, ltb}
+use lib.Dec.{ltb}
 use lib.ListN.{length, getD, take, drop}
 use Rattle.profile.specs.declared.Profile.{Profile}
 use Rattle.profile.specs.declared.Refusal.the-variants.{ProfileSize}
 use Rattle.profile.specs.declared.Parsed.{Parsed}
 use Rattle.profile.specs.declared.Parsed.the-variants.{Accepted, Refused}
 use Rattle.profile.specs.Definition.{number-of, block-size}
-use Rattle.profile.specs.Questions.{profile-of}
+use Rattle.profile.specs.Questions.{good-size, profile-of}
 use Rattle.listing.specs.Definition.{blocks-line, card-line}
 use Rattle.card.specs.BlockLineDefinition.{block-line}
 
@@ -48,12 +48,12 @@ abbrev pub profile-judged : Parsed → List ℕ → List ℕ
 profile-judged (Accepted p) r = counted p r
 profile-judged (Refused q) r = card-line (number-of q)
 
-abbrev pub profiled : List ℕ → List ℕ
-profiled c = section 7 c (λ b. profile-judged (profile-of b))
+abbrev pub profiled : ℕ → List ℕ → List ℕ
+profiled n c = section n c (λ b. profile-judged (profile-of b))
 
--- FORMAT 9.3: a first byte other than 7 gives 1, and no first byte 11
-abbrev pub sized : List ℕ → List ℕ → List ℕ
-sized k r = cond (eqb (getD k 0 0) 7) (profiled r) (card-line (number-of ProfileSize))
+-- FORMAT 9.3: a first byte other than 0 and 7 gives 1, and no first byte 11
+abbrev pub sized : ℕ → List ℕ → List ℕ
+sized n r = cond (good-size n) (profiled n r) (card-line (number-of ProfileSize))
 
 abbrev pub printed : List ℕ → List ℕ
-printed c = section 1 c sized
+printed c = section 1 c (λ b. sized (getD b 0 0))

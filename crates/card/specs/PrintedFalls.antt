@@ -12,15 +12,13 @@ use lib.Dec.{eqb, ltb}
 use lib.ListN.{length, getD, take}
 use lib.Seq.{getD-take}
 use Rattle.profile.specs.declared.Profile.{Profile}
-use Rattle.profile.specs.declared.Refusal.the-variants.{ProfileSize}
 use Rattle.profile.specs.declared.Parsed.{Parsed}
 use Rattle.profile.specs.declared.Parsed.the-variants.{Accepted, Refused}
-use Rattle.profile.specs.Definition.{number-of}
-use Rattle.profile.specs.Questions.{profile-of}
+use Rattle.profile.specs.Questions.{factory, profile-of}
 use Rattle.card.specs.declared.section.Section.{Section}
 use Rattle.card.specs.declared.section.Section.the-variants.{Size, Bytes, Count, Block, End, Over}
 use Rattle.card.specs.SectionDefinition.{good, known, size, ends, over, left, from, Step, silent, refusal}
-use Rattle.card.specs.HeadingDefinition.{profile-step}
+use Rattle.card.specs.HeadingDefinition.{size-step, profile-step}
 use Rattle.card.specs.PrintedDefinition.{count-of}
 use Rattle.card.specs.PrintedStep.{whole, cut, step}
 
@@ -45,8 +43,12 @@ from-left p i k = go (ltb i k)
 
 whole-falls : (s : Section) (y : List ℕ) → ((j : ℕ) → getD y j 0 ≤ 255) → over s ≡ false
     → left (whole s (take (size s) y) .next) < left s
-whole-falls Size y h o = either (eqb (getD (take 1 y) 0 0) 7) (silent Bytes) (refusal (number-of ProfileSize))
-    (left Size) (omega arith) (omega arith)
+whole-falls Size y h o = go (getD (take 1 y) 0 0)
+  where
+    go : (n : ℕ) → left (size-step n .next) < left Size
+    go n =
+        either (eqb n 0) (silent (Count factory)) (cond (eqb n 7) (silent Bytes) (refusal 1)) (left Size) (omega arith)
+        (either (eqb n 7) (silent Bytes) (refusal 1) (left Size) (omega arith) (omega arith))
 whole-falls Bytes y h o = go (profile-of (take 7 y))
   where
     go : (a : Parsed) → left (profile-step a .next) < left Bytes

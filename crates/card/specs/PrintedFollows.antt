@@ -4,25 +4,25 @@
 --                    of x, and what is printed for the rest d
 --
 -- Proved: every step of a section that a card can lead to does so (follows), whether it is cut or whole (cut-good,
--- whole-good).
+-- whole-good). A section that is whole (section-whole); one of no bytes, after which the count comes (none-profiled).
 use Prim.Native.Nat.{ℕ, zero, suc, _+_, _-_, _≤_, _<_}
 use mathlib.Core.Path.{_≡_, refl, sym, ap, ap₂, _∙_, subst⁻¹}
 use mathlib.Core.Logic.{by-cases}
-use mathlib.Core.Bool.{Bool, true, false, cond, and-eq-true-iff}
+use mathlib.Core.Bool.{Bool, true, false, cond, _||_, and-eq-true-iff}
 use mathlib.Core.List.{List, [], _∷_, _++_, append-nil}
 use native.Mathlib.Nat.{sub-zero}
 use native.Mathlib.Decide.{decLt}
 use native.Mathlib.Omega.{arith}
-use borrow.Author.Tests.{ltb-true, ltb-false, le-ltb}
+use borrow.Author.Tests.{ltb-true, ltb-false, le-ltb, eqb-true}
 use lib.Dec.{eqb, ltb}
 use lib.ListN.{length, getD, take, drop}
 use lib.Seq.{length-take-le, take-all}
 use Rattle.profile.specs.declared.Profile.{Profile}
-use Rattle.profile.specs.declared.Refusal.the-variants.{ProfileSize}
 use Rattle.profile.specs.declared.Parsed.{Parsed}
 use Rattle.profile.specs.declared.Parsed.the-variants.{Accepted, Refused}
 use Rattle.profile.specs.Definition.{number-of, block-size}
-use Rattle.profile.specs.Questions.{profile-of}
+use Rattle.profile.specs.Questions.{factory, profile-of}
+use Rattle.profile.specs.QuestionsLaws.{none-accepted}
 use Rattle.listing.specs.Definition.{blocks-line, card-line}
 use Rattle.card.specs.declared.section.Section.{Section}
 use Rattle.card.specs.declared.section.Section.the-variants.{Size, Bytes, Count, Block, End, Over}
@@ -30,7 +30,7 @@ use Rattle.card.specs.SectionDefinition.{accepts, good, size, ends, from
 use Rattle.card.specs.SectionLaws.{profile-accepts}
 use Rattle.card.specs.HeadingDefinition.{size-step, profile-step, count-step}
 use Rattle.card.specs.BlockLineDefinition.{block-line}
-use Rattle.card.specs.PrintedDefinition.{blocks, count-of, profile-judged, profiled}
+use Rattle.card.specs.PrintedDefinition.{section, blocks, count-of, counted, profile-judged, profiled, sized}
 use Rattle.card.specs.PrintedStep.{whole, cut, step, after}
 
 pub record Follows (x : Step) (a d : List ℕ) : Type 0 where
@@ -47,9 +47,26 @@ pick false h g = g refl
 
 -- ---- what comes next
 
-size-follows : (n : ℕ) (d : List ℕ)
-    → Follows (size-step n) (cond (eqb n 7) (profiled d) (card-line (number-of ProfileSize))) d
-size-follows n d = pick (eqb n 7) (λ _. record { good = refl; says = refl }) (λ _. refused 1 d)
+pub section-whole : (n : ℕ) (c : List ℕ) (f : List ℕ → List ℕ → List ℕ) → n ≤ length c
+    → section n c f ≡ f (take n c) (drop n c)
+section-whole n c f h = ap (λ b. cond b (card-line 11) (f (take n c) (drop n c))) (le-ltb (length c) n h)
+
+-- a profile of no bytes is there at once
+pub none-profiled : (d : List ℕ) → profiled 0 d ≡ counted factory d
+none-profiled d =
+    section-whole 0 d (λ b. profile-judged (profile-of b)) (omega arith) ∙ ap (λ a. profile-judged a d) none-accepted
+
+size-follows : (n : ℕ) (d : List ℕ) → Follows (size-step n) (sized n d) d
+size-follows n d = go (eqb n 0) refl
+  where
+    same : (k : ℕ) → eqb n k ≡ true → profiled n d ≡ profiled k d
+    same k e = ap (λ (k : ℕ). profiled k d) (eqb-true n k e)
+
+    go : (b : Bool) → eqb n 0 ≡ b
+        → Follows (cond b (silent (Count factory)) (cond (eqb n 7) (silent Bytes) (refusal 1)))
+        (cond (b || eqb n 7) (profiled n d) (card-line 1)) d
+    go true e = record { good = profile-accepts [] factory none-accepted; says = same 0 e ∙ none-profiled d }
+    go false _ = pick (eqb n 7) (λ e. record { good = refl; says = same 7 e }) (λ _. refused 1 d)
 
 profile-follows : (y d : List ℕ) → Follows (profile-step (profile-of y)) (profile-judged (profile-of y) d) d
 profile-follows y d = go (profile-of y) refl

@@ -40,7 +40,7 @@ step s y = cond (ltb (length y) (size s)) (cut s) (whole s (take (size s) y))
 
 abbrev pub after : Section → List ℕ → List ℕ
 after Size c = printed c
-after Bytes c = profiled c
+after Bytes c = profiled 7 c
 after (Count p) c = counted p c
 after (Block p i k) c = blocks p (k - i) i c
 after End c = end c

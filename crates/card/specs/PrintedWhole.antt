@@ -5,24 +5,28 @@
 --
 -- Proved: judging that takes the step of its section prints what it has to (judges), and leads to a section that a card
 -- leads to (step-good); runs print what is to be printed (run-says), so from the start of a card they print its list
--- (list-printed). How short the reads were that brought the bytes of a section does not enter.
+-- (list-printed). How short the reads were that brought the bytes of a section does not enter. A card without a profile
+-- has the list of the card with the seven bytes that no bytes stand for (none-printed).
 use Prim.Native.Nat.{ℕ, _≤_, _<_}
 use mathlib.Core.Path.{_≡_, refl, sym, ap, ap₂, _∙_, subst, subst⁻¹}
 use mathlib.Core.Bool.{Bool, true, false, cond}
-use mathlib.Core.List.{List, [], _++_}
+use mathlib.Core.List.{List, [], _∷_, _++_}
 use native.Mathlib.Omega.{arith}
 use borrow.Author.Tests.{lt-ltb, le-ltb}
 use lib.Dec.{ltb}
 use lib.ListN.{length, getD, take, drop, length-append}
 use lib.Seq.{take-at}
+use Rattle.profile.specs.declared.questions.Caller.the-variants.{Card}
+use Rattle.profile.specs.Questions.{factory, profile-of}
+use Rattle.profile.specs.QuestionsLaws.{none-means, none-accepted}
 use Rattle.card.specs.declared.section.Section.{Section}
 use Rattle.card.specs.declared.section.Section.the-variants.{Size, Over}
 use Rattle.card.specs.declared.section.Judged.{Judged}
 use Rattle.card.specs.SectionDefinition.{good, known, size, wanted, Takes}
 use Rattle.card.specs.SectionLaws.{known-good, good-known}
-use Rattle.card.specs.PrintedDefinition.{printed}
+use Rattle.card.specs.PrintedDefinition.{counted, profile-judged, profiled, sized, printed}
 use Rattle.card.specs.PrintedStep.{whole, cut, step, after, rest, Judges}
-use Rattle.card.specs.PrintedFollows.{follows, cut-good, whole-good}
+use Rattle.card.specs.PrintedFollows.{follows, cut-good, whole-good, section-whole, none-profiled}
 use Rattle.card.specs.PrintedFalls.{step-falls}
 
 -- the two ways of a step
@@ -88,3 +92,16 @@ run-says _ _ _ (next s c p l t m h r) =
 
 pub list-printed : (c o : List ℕ) → Run Size c o → o ≡ printed c
 list-printed c o r = run-says Size c o r
+
+pub none-printed : (c : List ℕ) → printed (0 ∷ c) ≡ printed (7 ∷ 8 ∷ 3 ∷ 255 ∷ 14 ∷ 16 ∷ 18 ∷ 24 ∷ c)
+none-printed c =
+    first 0 c ∙ none-profiled c
+    ∙ sym (first 7 (8 ∷ 3 ∷ 255 ∷ 14 ∷ 16 ∷ 18 ∷ 24 ∷ c) ∙ seven)
+  where
+    first : (n : ℕ) (d : List ℕ) → printed (n ∷ d) ≡ sized n d
+    first n d = section-whole 1 (n ∷ d) (λ b. sized (getD b 0 0)) (omega arith)
+
+    seven : profiled 7 (8 ∷ 3 ∷ 255 ∷ 14 ∷ 16 ∷ 18 ∷ 24 ∷ c) ≡ counted factory c
+    seven =
+        section-whole 7 (8 ∷ 3 ∷ 255 ∷ 14 ∷ 16 ∷ 18 ∷ 24 ∷ c) (λ b. profile-judged (profile-of b)) (omega arith)
+        ∙ ap (λ a. profile-judged a c) (sym (none-means Card 0 0 0) ∙ none-accepted)

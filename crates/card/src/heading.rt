@@ -22,10 +22,17 @@ pub fn refuse(q: u8, line: &mut [u8; LINE]) -> Judged
     }
 }
 
-// Judges the byte that says how many bytes the profile has.
+// Judges the byte that says how many bytes the profile has. After a 0 no section of the profile comes.
 pub fn judge_size(n: u8, line: &mut [u8; LINE]) -> Judged
     ensures { λ t. ⌜ Takes (size-step n) (now (line .entry)) t (now (line .exit)) ⌝ }
 {
+    if n == 0 {
+        let factory = profile::questions::factory();
+        return Judged {
+            next: Section::Count(factory),
+            size: 0,
+        };
+    }
     if n != 7 {
         return refuse(profile::number(Refusal::ProfileSize), line);
     }

@@ -24,7 +24,7 @@ use Rattle.profile.specs.declared.Answer.the-variants as answer
 use Rattle.profile.specs.declared.questions.Caller.the-variants.{Fetch, Extract, Card}
 use Rattle.profile.specs.Definition.{answer-of, block-size, data-size, unless-refused}
 use Rattle.profile.specs.Questions.{profile-of, fetching, extracting}
-use Rattle.profile.specs.QuestionsLaws.{admitted-read, admitted-profile}
+use Rattle.profile.specs.QuestionsLaws.{admitted-profile}
 use Rattle.profile.specs.Valid.{Valid, admitted-valid, extracting-passed, reading-admitted, checks-below}
 use Rattle.profile.specs.Valid.{data-start-most}
 use Rattle.profile.specs.LayoutDefinition.{if-accepted, start}
@@ -143,9 +143,8 @@ module _ (b y : List ℕ) (o : ℕ) (p : Profile) (e : extracting b (length y) o
     (small : getD b 2 0 ≤ 255) where
   pub extracted-fits : Fits p y × (o ≡ data-size p)
   extracted-fits =
-      let byte : p .length ≤ 255 =
-      omega (arith, small, ap (λ (q : Profile). q .length) (admitted-read Extract b (length y) o 0 p e)) in
-      let (ok, size, room) = extracting-passed b (length y) o p e byte in
+      let valid = admitted-valid Extract b (length y) o 0 p e small in
+      let (ok, size, room) = extracting-passed b (length y) o p e (valid .length .1) in
       (record { valid = ok; size = size }, room)
 
   pub extracted-small : length y ≤ 2040

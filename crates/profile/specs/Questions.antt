@@ -4,6 +4,7 @@
 --   questions          all questions, in their order; questions-of c: those that the caller c asks
 --   put k y q a        a question that is asked if k, and answered by yes if y, put to what was accepted so far
 --   asked c l p        all questions put to the profile p, for the caller c who lends l: the first no stays
+--   factory            what a profile of no bytes means
 --   read b             what the bytes b of a profile mean
 --   admitted c b d o i the profile of the bytes b for the caller c, with an input of d bytes, an output of o bytes and
 --                      the subword i, or the first question that says no
@@ -66,9 +67,12 @@ pub record Question : Type 0 where
   pub good : Lent → Profile → Bool
   pub refusal : Refusal
 
--- FORMAT 4.2: the profile is seven bytes long
+-- FORMAT 4.2: the profile has no bytes, or seven
+abbrev pub good-size : ℕ → Bool
+good-size n = eqb n 0 || eqb n 7
+
 abbrev pub profile-size : Question
-profile-size = record { asks = everyone; good = λ l p. eqb (l .profile) 7; refusal = ProfileSize }
+profile-size = record { asks = everyone; good = λ l p. good-size (l .profile); refusal = ProfileSize }
 
 -- FORMAT 4.3: m is from 1 to 8
 abbrev pub good-subwords : Profile → Bool
@@ -170,8 +174,9 @@ asked c l p = put-all c l p questions (Accepted p)
 
 -- ---- the bytes of a profile
 
-abbrev pub read : List ℕ → Profile
-read b = record {
+-- FORMAT 2.1: one after the other
+abbrev pub fields : List ℕ → Profile
+fields b = record {
   subwords = getD b 0 0;
   nested = getD b 1 0;
   length = getD b 2 0;
@@ -180,6 +185,14 @@ read b = record {
   t2 = getD b 5 0;
   t3 = getD b 6 0;
 }
+
+-- FORMAT 2.6: the profile of the cards that leave it out
+abbrev pub factory : Profile
+factory = record { subwords = 8; nested = 3; length = 255; t0 = 14; t1 = 16; t2 = 18; t3 = 24 }
+
+abbrev pub read : List ℕ → Profile
+read [] = factory
+read (x ∷ b) = fields (x ∷ b)
 
 abbrev pub lent : List ℕ → (input output subword : ℕ) → Lent
 lent b d o i = record { profile = length b; input = d; output = o; subword = i }

@@ -5,13 +5,15 @@
 --
 -- Proved: who is admitted passes every question, and the profile is the one that was asked about (asked-yes); whoever
 -- passes every question is admitted (asked-all); how the questions are put in their order (asked-in-order, next); the
--- profile that is admitted for any caller is admitted by itself (admitted-profile).
-use Prim.Native.Nat.{ℕ}
+-- profile that is admitted for any caller is admitted by itself (admitted-profile). No bytes are answered, whoever
+-- asks, as the bytes 8 3 255 14 16 18 24 are (none-means), and are accepted (none-accepted).
+use Prim.Native.Nat.{ℕ, _≤_}
 use mathlib.Core.Path.{_≡_, refl, ap, ap₂, _∙_}
 use mathlib.Core.Bool.{Bool, true, false, cond, _||_}
 use mathlib.Core.List.{List, [], _∷_}
 use native.Mathlib.Omega.{arith}
 use lib.Dec.{ltb, eqb}
+use lib.ListN.{length, getD}
 use Rattle.profile.specs.declared.Profile.{Profile}
 use Rattle.profile.specs.declared.Refusal.{Refusal}
 use Rattle.profile.specs.declared.Refusal.the-variants.{ProfileSize, Subwords, Nested, Capabilities, Length}
@@ -24,7 +26,7 @@ use Rattle.profile.specs.declared.questions.Lent.{Lent}
 use Rattle.profile.specs.Definition.{block-size, data-size}
 use Rattle.profile.specs.Questions.{Question, questions, put, put-all, asked, read, admitted, profile-of}
 use Rattle.profile.specs.Questions.{lent, encodes, decodes, fetches, extracts, good-subwords, good-nested}
-use Rattle.profile.specs.Questions.{good-capabilities, good-length}
+use Rattle.profile.specs.Questions.{good-capabilities, good-length, good-size, fields, factory}
 
 abbrev pub passes : Caller → Lent → Profile → Question → Bool
 passes c l p q = cond (q .asks c) (q .good l p) true
@@ -82,7 +84,7 @@ pub asked-in-order : (c : Caller) (l : Lent) (p : Profile) → asked c l p ≡
     (put true (good-capabilities p) Capabilities
     (put true (good-nested p) Nested
     (put true (good-subwords p) Subwords
-    (put true (eqb (l .profile) 7) ProfileSize (Accepted p))))))))))
+    (put true (good-size (l .profile)) ProfileSize (Accepted p))))))))))
 unfolding asked
 asked-in-order c l p = refl
 
@@ -95,3 +97,28 @@ module _ (c : Caller) (b : List ℕ) (d o i : ℕ) (p : Profile) where
       let (same, (y1, (y2, (y3, (y4, (y5, _)))))) = asked-yes c (lent b d o i) (read b) p e in
       asked-all Card (lent b 0 0 0) (read b) (y1, (y2, (y3, (y4, (y5, (refl, (refl, (refl, (refl, (refl, tt))))))))))
       ∙ ap Accepted same
+
+-- ---- what the bytes of a profile mean
+
+pub read-none : (b : List ℕ) → length b ≡ 0 → factory ≡ read b
+read-none [] e = refl
+read-none (x ∷ b) e = absurd (omega arith)
+
+pub read-some : (b : List ℕ) → (length b ≡ 0 → ⊥) → fields b ≡ read b
+read-some [] h = absurd (h refl)
+read-some (x ∷ b) h = refl
+
+-- byte 2 is the length, if there is one
+pub read-length : (b : List ℕ) → getD b 2 0 ≤ 255 → read b .length ≤ 255
+read-length [] h = omega arith
+read-length (x ∷ b) h = h
+
+-- no bytes stand for seven
+pub none-means : (c : Caller) (d o i : ℕ)
+    → admitted c [] d o i ≡ admitted c (8 ∷ 3 ∷ 255 ∷ 14 ∷ 16 ∷ 18 ∷ 24 ∷ []) d o i
+unfolding asked
+none-means c d o i = refl
+
+pub none-accepted : profile-of [] ≡ Accepted factory
+unfolding asked
+none-accepted = refl

@@ -24,7 +24,7 @@ use Rattle.profile.specs.declared.questions.Lent.{Lent}
 use Rattle.profile.specs.Definition.{capability, last, checks, capability-sum, block-size, data-size, data-start}
 use Rattle.profile.specs.Questions.{good-step, good-capabilities, asked, read, lent, admitted}
 use Rattle.profile.specs.Questions.{profile-of, writing, reading-of, extracting}
-use Rattle.profile.specs.QuestionsLaws.{asked-yes, asked-all}
+use Rattle.profile.specs.QuestionsLaws.{asked-yes, asked-all, read-length}
 
 pub record Valid (p : Profile) : Type 0 where
   pub subwords : (1 ≤ p .subwords) × (p .subwords ≤ 8)
@@ -149,11 +149,11 @@ module _ (b : List ℕ) (d o : ℕ) (p : Profile) where
         (y1, (y2, (y3, (y4, (y5, (refl, (in-size, (refl, (out-size, (refl, tt))))))))))
         ∙ ap Accepted same
 
--- byte 2 of a profile is the length
+-- byte 2 of a profile is the length, if there is one
 pub admitted-valid : (c : Caller) (b : List ℕ) (d o i : ℕ) (q : Profile)
     → admitted c b d o i ≡ Accepted q → getD b 2 0 ≤ 255
     → Valid q
-admitted-valid c b d o i q e small = asked-valid c (lent b d o i) (read b) q e small
+admitted-valid c b d o i q e small = asked-valid c (lent b d o i) (read b) q e (read-length b small)
 
 -- ---- check symbols
 

@@ -7,7 +7,7 @@ ghost use lib.ListN.{getD};
 ghost use Rattle.profile.specs.Definition.{last as Last};
 ghost use Rattle.profile.specs.Questions.{put, read as Read, encodes as Encodes, decodes as Decodes};
 ghost use Rattle.profile.specs.Questions.{fetches as Fetches, extracts as Extracts, good-subwords, good-nested};
-ghost use Rattle.profile.specs.Questions.{good-capabilities, good-length, asked, admitted};
+ghost use Rattle.profile.specs.Questions.{good-capabilities, good-length, asked, admitted, factory as Factory};
 use crate::Parsed;
 use crate::Profile;
 use crate::Refusal;
@@ -179,8 +179,9 @@ pub fn judge(caller: Caller, l: Lent, p: Profile) -> Parsed
     let x = extracts(caller);
     let size = p.block_size();
     let payload = p.data_size();
+    let bytes = l.profile;
     let a0 = Parsed::Accepted(p);
-    let a1 = ask(a0, true, l.profile == 7, Refusal::ProfileSize);
+    let a1 = ask(a0, true, (bytes == 0) | (bytes == 7), Refusal::ProfileSize);
     let a2 = ask(a1, true, subwords(p), Refusal::Subwords);
     let a3 = ask(a2, true, nested(p), Refusal::Nested);
     let a4 = ask(a3, true, capabilities(p), Refusal::Capabilities);
@@ -202,10 +203,28 @@ fn byte(bytes: &[u8], i: usize) -> u8
     0
 }
 
+// The profile that no bytes stand for: that of the cards which leave it out.
+pub fn factory() -> Profile
+    ensures { λ p. ⌜ p ≡ Factory ⌝ }
+{
+    Profile {
+        subwords: 8,
+        nested: 3,
+        length: 255,
+        t0: 14,
+        t1: 16,
+        t2: 18,
+        t3: 24,
+    }
+}
+
 // Reads the bytes of a profile.
 fn read(bytes: &[u8]) -> Profile
     ensures { λ p. ⌜ p ≡ Read (now (bytes .entry)) ⌝ }
 {
+    if bytes.len() == 0 {
+        return factory();
+    }
     Profile {
         subwords: byte(bytes, 0),
         nested: byte(bytes, 1),

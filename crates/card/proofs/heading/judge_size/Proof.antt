@@ -1,11 +1,21 @@
--- Seven, or refused.
+-- None, seven, or refused.
 use mathlib.Core.Path.{ap}
 use borrow.Author.Tests.{eq-eqb, ne-eqb}
-use Rattle.card.specs.SectionDefinition.{refusal}
+use Rattle.card.specs.declared.section.Section.the-variants.{Count}
+use Rattle.card.specs.SectionDefinition.{silent, refusal}
 use Rattle.card.specs.SectionLaws.{takes-silent, takes-as}
 use borrow.Author.Needs.{needs}
 use Rattle.card.proofs.heading.judge_size.Statement.{statement}
 use Rattle.card.proofs.heading.judge_size.Tie as tie
+
+factory-requires : tie.Need-factory-requires
+factory-requires c κs = search needs
+
+returns : tie.Need-returns
+returns c =
+    let none = c .before in
+    rw (eq-eqb (none .before .args .n) 0 (none .if1 .taken))
+    (takes-as (ap (λ p. silent (Count p)) (c .factory .ensures)) (takes-silent _ _))
 
 number-requires : tie.Need-number-requires
 number-requires c κs = search needs
@@ -13,12 +23,19 @@ number-requires c κs = search needs
 refuse-requires : tie.Need-refuse-requires
 refuse-requires c κs = search needs
 
-returns : tie.Need-returns
-returns c = rw (ne-eqb (c .before .before .before .before .args .n) 7 (c .before .before .before .if1 .taken))
+returns-2 : tie.Need-returns-2
+returns-2 c =
+    let other = c .before .before .before in
+    let some = other .before in
+    let n = some .before .args .n in
+    rw (ne-eqb n 0 (some .if1 .left), ne-eqb n 7 (other .if2 .taken))
     (takes-as (ap refusal (c .before .before .number .ensures)) (c .refuse .ensures))
 
-returns-2 : tie.Need-returns-2
-returns-2 c = rw (eq-eqb (c .before .args .n) 7 (c .if1 .left)) (takes-silent _ _)
+returns-3 : tie.Need-returns-3
+returns-3 c =
+    let some = c .before in
+    let n = some .before .args .n in
+    rw (ne-eqb n 0 (some .if1 .left), eq-eqb n 7 (c .if2 .left)) (takes-silent _ _)
 
 pub judge-size-spec : {M : Type 1} → statement M
-judge-size-spec = tie.close (tie.spec number-requires refuse-requires returns returns-2)
+judge-size-spec = tie.close (tie.spec factory-requires returns number-requires refuse-requires returns-2 returns-3)

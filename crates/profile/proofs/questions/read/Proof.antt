@@ -1,7 +1,17 @@
--- Byte after byte.
+-- Left out, or byte after byte.
+use mathlib.Core.Path.{_∙_}
+use Rattle.profile.specs.QuestionsLaws.{read-none, read-some}
 use borrow.Author.Needs.{needs}
 use Rattle.profile.proofs.questions.read.Statement.{statement}
 use Rattle.profile.proofs.questions.read.Tie as tie
+
+factory-requires : tie.Need-factory-requires
+factory-requires c κs = search needs
+
+returns : tie.Need-returns
+returns c =
+    let empty = c .before in
+    c .factory .ensures ∙ read-none (empty .before .before .args .bytes .now) (empty .if1 .taken)
 
 byte-requires : tie.Need-byte-requires
 byte-requires c κs = search needs
@@ -24,9 +34,10 @@ byte-requires-6 c κs = search needs
 byte-requires-7 : tie.Need-byte-requires-7
 byte-requires-7 c κs = search needs
 
-returns : tie.Need-returns
-returns c =
+returns-2 : tie.Need-returns-2
+returns-2 c =
     let three = c .before .before .before .before in
+    let some = three .before .before .before in
     rw (
       c .byte7 .ensures,
       c .before .byte6 .ensures,
@@ -35,12 +46,14 @@ returns c =
       three .byte3 .ensures,
       three .before .byte2 .ensures,
       three .before .before .byte .ensures,
-    )
+    ) (read-some (some .before .before .args .bytes .now) (some .if1 .left))
 
 pub read-spec : {M : Type 1} → statement M
 read-spec =
     tie.close
     (tie.spec
+    factory-requires
+    returns
     byte-requires
     byte-requires-2
     byte-requires-3
@@ -48,4 +61,4 @@ read-spec =
     byte-requires-5
     byte-requires-6
     byte-requires-7
-    returns)
+    returns-2)
