@@ -122,7 +122,7 @@ static inline uint8_t gii_stage(uint16_t result) { return (uint8_t)(result >> 8)
 static inline const char *gii_message(uint8_t number) {
     switch (number) {
     case GII_OK: return "accepted";
-    case GII_E_PROFILE_BYTES: return "the profile has neither seven bytes nor none";
+    case GII_E_PROFILE_BYTES: return "the profile has neither 7 nor 0 bytes";
     case GII_E_STRIPS: return "the number of strips is not from 1 to 8";
     case GII_E_NESTED: return "the number of nested sums is above 3, or not below the number of strips";
     case GII_E_STRENGTHS: return "the strengths are not in order";

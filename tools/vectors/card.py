@@ -30,7 +30,7 @@ def long_cards():
 
 
 def no_profile_cards():
-    """Cards whose first byte is 0: cut in and after each section, and followed by one byte too many."""
+    """Cards whose first byte is 0: cut in and after each section, with a byte too many; the last has two blocks."""
     rng = random.Random('card without a profile/7')
     _, profile = gii.read_profile(b'', LANDED)
     block = gii.write_triangular(profile, bytes(rng.randrange(256) for _ in range(profile.data_size)))

@@ -191,15 +191,11 @@ def data_cases(c, rng, some):
     assert numbers_seen == set(range(10)), numbers_seen
 
 
-def no_profile(c, rng):
+def no_profile(c, rng, some):
     """A profile of no bytes, for every caller, beside the seven that it stands for: sizes that are right and wrong,
     subwords that are there and not, blocks with few and with many changes."""
     p = gii.read_profile(b'', LANDED)[1]
     numbers_seen = set()
-
-    def some(k):
-        return bytes(rng.randrange(256) for _ in range(k))
-
     for profile in b'', gii.FACTORY:
         c.profile(profile)
         for k, size in (p.data_size, p.size - 1), (p.data_size - 1, p.size), (p.size, p.size), (0, 0):
@@ -236,5 +232,5 @@ def make():
     random_writes(c, rng, some)
     refusals(c, some)
     data_cases(c, random.Random('code_vectors/data'), some)
-    no_profile(c, random.Random('code_vectors/no profile'))
+    no_profile(c, random.Random('code_vectors/no profile'), some)
     return {'stdin': number(len(c.bytes)) + b''.join(c.bytes), 'stdout': text(c.lines)}

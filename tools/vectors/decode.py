@@ -154,7 +154,7 @@ def samples(c, rng):
 def questions(c, rng):
     """Blocks that are refused by each of the questions 1 to 7, some of them at fault for later ones too."""
     good = [2, 1, 5, 1, 2, 0, 0]
-    for profile in [2], [2, 1, 5, 1, 2, 0], good + [0], good + [1], good + good, [9] * 6, [0] * 20:          # 1
+    for profile in [2], [2, 1, 5, 1, 2, 0], good + [0], good + [1], good + good, [9] * 6, [0] * 20:              # 1
         for k, size in (10, 10), (0, 0), (10, 9):
             c.read(profile, bytes(k), size)
     for m in 0, 9, 10, 128, 255:                                                                                # 2

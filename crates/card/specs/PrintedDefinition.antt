@@ -48,6 +48,7 @@ abbrev pub profile-judged : Parsed → List ℕ → List ℕ
 profile-judged (Accepted p) r = counted p r
 profile-judged (Refused q) r = card-line (number-of q)
 
+-- FORMAT 9.3: .. when its n bytes are there, which is at once if it has none
 abbrev pub profiled : ℕ → List ℕ → List ℕ
 profiled n c = section n c (λ b. profile-judged (profile-of b))
 

@@ -174,7 +174,7 @@ asked c l p = put-all c l p questions (Accepted p)
 
 -- ---- the bytes of a profile
 
--- FORMAT 2.1: one after the other
+-- FORMAT 2.1: the bytes one after the other
 abbrev pub fields : List ℕ → Profile
 fields b = record {
   subwords = getD b 0 0;

@@ -5,8 +5,9 @@
 --
 -- Proved: who is admitted passes every question, and the profile is the one that was asked about (asked-yes); whoever
 -- passes every question is admitted (asked-all); how the questions are put in their order (asked-in-order, next); the
--- profile that is admitted for any caller is admitted by itself (admitted-profile). No bytes are answered, whoever
--- asks, as the bytes 8 3 255 14 16 18 24 are (none-means), and are accepted (none-accepted).
+-- profile that is admitted for any caller is admitted by itself (admitted-profile); what no bytes and some bytes mean
+-- (read-none, read-some), and that the length is a byte (read-length). No bytes are answered, whoever asks, as the
+-- bytes 8 3 255 14 16 18 24 are (none-means), and are accepted (none-accepted).
 use Prim.Native.Nat.{ℕ, _≤_}
 use mathlib.Core.Path.{_≡_, refl, ap, ap₂, _∙_}
 use mathlib.Core.Bool.{Bool, true, false, cond, _||_}
