@@ -47,29 +47,31 @@ enum {
  * (FORMAT 4).
  */
 enum {
-    GII_OK = 0,               /* every question was answered by yes */
-    GII_E_PROFILE_BYTES = 1,  /* has the profile seven bytes, or none? */
-    GII_E_STRIPS = 2,         /* is m at least 1 and at most 8? */
-    GII_E_NESTED = 3,         /* is v at most 3, and less than m? */
-    GII_E_STRENGTHS = 4,      /* are the strengths in order: 1 <= t0 < t1 <= .. <= tv <= 24, and 0 after tv? */
-    GII_E_LENGTH = 5,         /* is n greater than 2 x tv? */
-    GII_E_INPUT_BYTES = 6,    /* has the input the size of the data (gii_encode) or of a block (all others)? */
-    GII_E_OUTPUT_BYTES = 7,   /* has the output the size of the data (gii_read) or of a block (all others)? */
-    GII_E_UNSETTLED = 8,      /* are all strips settled when decoding ends? gii_decode and gii_read */
-    GII_E_NOT_CODEWORD = 9,   /* is the block then a codeword? gii_decode and gii_read */
-    GII_E_STRIP = 10          /* is the number of the strip less than m? gii_fetch */
+    GII_OK = 0,                 /* every question was answered by yes */
+    GII_E_PROFILE_BYTES = 1,    /* has the profile seven bytes, or none? */
+    GII_E_STRIPS = 2,           /* is m at least 1 and at most 8? */
+    GII_E_NESTED = 3,           /* is v at most 3, and less than m? */
+    GII_E_STRENGTHS = 4,        /* are the strengths in order: 1 <= t0 < t1 <= .. <= tv <= 24, and 0 after tv? */
+    GII_E_EQUAL_STRENGTHS = 15, /* do the strengths rise: t1 < .. < tv? gii_encode */
+    GII_E_LENGTH = 5,           /* is n greater than 2 x tv? */
+    GII_E_INPUT_BYTES = 6,      /* has the input the size of the data (gii_encode) or of a block (all others)? */
+    GII_E_OUTPUT_BYTES = 7,     /* has the output the size of the data (gii_read) or of a block (all others)? */
+    GII_E_UNSETTLED = 8,        /* are all strips settled when decoding ends? gii_decode and gii_read */
+    GII_E_NOT_CODEWORD = 9,     /* is the block then a codeword? gii_decode and gii_read */
+    GII_E_STRIP = 10            /* is the number of the strip less than m? gii_fetch */
 };
 
 /*
  * The data bytes of a block (at most GII_DATA_MAX) and all its bytes (at most GII_BLOCK_MAX). 0 exactly if the profile
- * is refused: an accepted one never has 0.
+ * is refused by 1 to 5: an accepted one never has 0. They are the sizes for whoever reads, so that stored blocks with
+ * equal strengths keep theirs; gii_encode may still answer 15.
  */
 size_t gii_data_size(const uint8_t *profile, size_t profile_size);
 size_t gii_block_size(const uint8_t *profile, size_t profile_size);
 
 /*
  * Writes to out the block with the given data: the one codeword whose data bytes, strip after strip, are these.
- * data_size must be gii_data_size and out_size gii_block_size. Returns 0, or 1 to 7.
+ * data_size must be gii_data_size and out_size gii_block_size. Returns 0, or 1 to 7 or 15.
  */
 uint8_t gii_encode(const uint8_t *profile, size_t profile_size, const uint8_t *data, size_t data_size,
                    uint8_t *out, size_t out_size);
@@ -126,6 +128,7 @@ static inline const char *gii_message(uint8_t number) {
     case GII_E_STRIPS: return "the number of strips is not from 1 to 8";
     case GII_E_NESTED: return "the number of nested sums is above 3, or not below the number of strips";
     case GII_E_STRENGTHS: return "the strengths are not in order";
+    case GII_E_EQUAL_STRENGTHS: return "two strengths are equal; such blocks are read, and no longer written";
     case GII_E_LENGTH: return "a strip has too few bytes for its strength";
     case GII_E_INPUT_BYTES: return "the input has the wrong size";
     case GII_E_OUTPUT_BYTES: return "the output has the wrong size";

@@ -75,6 +75,9 @@ int main(void) {
     printf("refused %d: no strip 8\n", gii_fetch(profile, sizeof profile, written, size, 8));
     printf("refused %d: a profile of six bytes, size %zu\n",
            gii_encode(profile, 6, data, data_size, written, size), gii_data_size(profile, 6));
+    static const uint8_t equal[GII_PROFILE_BYTES] = {3, 2, 8, 1, 2, 2, 0};
+    printf("refused %d: a block with equal strengths is not written; stored ones have %zu data bytes\n",
+           gii_encode(equal, sizeof equal, data, 14, written, 24), gii_data_size(equal, sizeof equal));
     printf("refused %d: no profile, but no block either\n", gii_decode(NULL, 0, NULL, 0, NULL, 0, GII_PLAIN, NULL, 0));
 
     free(data);

@@ -213,6 +213,10 @@ fn main() {
     }
     let number = gii::encode(&PROFILE[..6], &data, &mut written);
     println!("refused {number}: a profile of six bytes, size {}", gii::data_size(&PROFILE[..6]));
+    let equal = [3, 2, 8, 1, 2, 2, 0];
+    let number = gii::encode(&equal, &data[..14], &mut written[..24]);
+    let stored = gii::data_size(&equal);
+    println!("refused {number}: a block with equal strengths is not written; stored ones have {stored} data bytes");
     if let Err(refusal) = gii::decode(&[], &[], &mut [], gii::PLAIN, &mut []) {
         println!("refused {}: no profile, but no block either", refusal.number);
     }

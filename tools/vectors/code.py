@@ -80,6 +80,14 @@ def model_cases(c, some):
                 assert block == bytes(numbers(strip))
 
 
+def model_writers(c):
+    """The profiles that the model's writer judges, with nothing else lent."""
+    with stored(cases.profiles) as folder:
+        for as_of, writes, profile, refusal, _ in rows(folder / 'profiles.txt'):
+            if wanted(as_of) and writes == '1':
+                c.write(bytes(numbers(profile)), b'', 0)
+
+
 def profile_of(m, v, n, t):
     """The seven bytes, of the first v + 1 capabilities."""
     return bytes([m, v, n, *t[:v + 1]] + [0] * (3 - v))
@@ -116,7 +124,9 @@ def every_shape(c, rng, some):
     def put(m, v, n, t):
         profile = profile_of(m, v, n, t)
         p = gii.read_profile(profile)[1]
-        block = c.write(profile, some(p.data_size), p.size)
+        given = some(p.data_size)
+        c.write(profile, given, p.size)
+        block = gii.write_triangular(p, given)
         if n == 2 * p.tv + 1 < 10:
             for i in range(m):
                 c.fetch(profile, block, i)
@@ -191,6 +201,42 @@ def data_cases(c, rng, some):
     assert numbers_seen == set(range(10)), numbers_seen
 
 
+def equal_strengths(c, rng, some):
+    """Profiles with two equal strengths: their sizes, writes that are refused whatever n and the sizes are, and blocks
+    from before they were refused, which are read and fetched from. Then profiles that rise, which are written, and
+    some that fail an earlier question too."""
+    def sizes_and_writes(m, v, t):
+        profile = profile_of(m, v, 2 * t[v] + 1 + rng.randrange(9), t)
+        p = gii.read_profile(profile, LANDED)[1]
+        c.profile(profile)
+        for k, size in (p.data_size + 1, p.size), (p.data_size, p.size - 1), (0, 0):
+            c.write(profile, some(k), size)
+        for n in 0, 2 * p.tv, 2 * p.tv + 1, 255:
+            c.write(profile[:2] + bytes([n]) + profile[3:], some(p.data_size), p.size)
+        given = some(p.data_size)
+        return profile, p, given, c.write(profile, given, p.size)
+
+    for m, v, t in (3, 2, (1, 2, 2)), (8, 2, (1, 24, 24)), (4, 3, (1, 2, 2, 3)), (4, 3, (1, 2, 3, 3)), \
+            (8, 3, (4, 8, 8, 8)), (5, 3, (3, 6, 9, 9)), (6, 3, (2, 5, 5, 7)):
+        profile, p, given, written = sizes_and_writes(m, v, t)
+        assert written is None
+        block = gii.write_triangular(p, given)
+        for i in range(m + 1):
+            c.fetch(profile, block, i)
+        for changes in 0, 1, t[0], t[1], t[v], t[v] + 1:
+            received = bytearray(block)
+            for k in rng.sample(range(p.n), changes):
+                received[(m - 1) * p.n + k] ^= rng.randint(1, 255)
+            _, out = c.data(profile, received, p.data_size)
+            assert out == given or changes > t[v]
+    for m, v, t in (1, 0, (1,)), (2, 1, (1, 2)), (8, 1, (23, 24)), (3, 2, (1, 2, 3)), (8, 2, (1, 23, 24)), \
+            (4, 3, (1, 2, 3, 4)), (8, 3, (1, 22, 23, 24)), (8, 3, (21, 22, 23, 24)), (6, 3, (2, 5, 6, 7)):
+        assert sizes_and_writes(m, v, t)[3]
+    for profile in [3, 2, 5, 1, 2, 2], [9, 2, 5, 1, 2, 2, 0], [2, 2, 5, 1, 2, 2, 0], [3, 2, 5, 2, 2, 2, 0], \
+            [3, 2, 5, 1, 2, 2, 2], [4, 3, 255, 1, 25, 25, 25], [4, 3, 9, 1, 3, 3, 2], [4, 3, 9, 1, 3, 2, 2]:
+        c.write(bytes(profile), some(6), 15)
+
+
 def no_profile(c, rng, some):
     """A profile of no bytes, for every caller, beside the seven that it stands for: sizes that are right and wrong,
     subwords that are there and not, blocks with few and with many changes."""
@@ -233,4 +279,6 @@ def make():
     refusals(c, some)
     data_cases(c, random.Random('code_vectors/data'), some)
     no_profile(c, random.Random('code_vectors/no profile'), some)
+    model_writers(c)
+    equal_strengths(c, random.Random('code_vectors/equal strengths'), some)
     return {'stdin': number(len(c.bytes)) + b''.join(c.bytes), 'stdout': text(c.lines)}

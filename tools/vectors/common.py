@@ -8,7 +8,7 @@ import tempfile
 import cases
 import gii
 
-LANDED = gii.Rules(requests={2})     # the requests that have landed: all answers are judged with just these
+LANDED = gii.Rules(requests={2, 7})     # the requests that have landed: all answers are judged with just these
 FORMS = {'plain': 'plain', 'ahead': 'lookahead', 'scaled': 'scaled'}     # the model's names of the forms, and ours
 LOOKAHEAD_HELD = ('gamma_S', 'delta_S', 'theta_S', 'g1', 'g2', 'h1', 'h2')
 SCALED_HELD = ('g', 'rho', 'xi', 'rho_S', 'xi_S')

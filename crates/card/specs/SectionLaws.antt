@@ -17,7 +17,7 @@ use Rattle.profile.specs.declared.Parsed.the-variants.{Accepted, Refused}
 use Rattle.profile.specs.declared.questions.Caller.the-variants.{Card}
 use Rattle.profile.specs.Definition.{block-size}
 use Rattle.profile.specs.Questions.{asked, read, lent, profile-of}
-use Rattle.profile.specs.QuestionsLaws.{asked-yes, asked-all}
+use Rattle.profile.specs.QuestionsLaws.{asked-yes, asked-all, card-own}
 use Rattle.profile.specs.Valid.{Valid, asked-valid}
 use Rattle.card.specs.declared.section.Section.{Section}
 use Rattle.card.specs.declared.section.Section.the-variants.{Block, Over}
@@ -46,10 +46,14 @@ module _ (p : Profile) where
 pub profile-accepts : (b : List ℕ) (q : Profile) → profile-of b ≡ Accepted q → accepts q ≡ true
 unfolding accepts
 profile-accepts b q e =
-    let (same, (_, (y2, (y3, (y4, (y5, _)))))) = asked-yes Card (lent b 0 0 0) (read b) q e in
-    let all = asked-all Card alone (read b)
-    (refl, (y2, (y3, (y4, (y5, (refl, (refl, (refl, (refl, (refl, tt)))))))))) in
-    subst (λ q. passes (asked Card alone q) ≡ true) same (ap passes all)
+    let (_, common, _) = asked-yes Card (lent b 0 0 0) (read b) q e in
+    ap passes (asked-all Card alone q (record {
+      profile-size = refl;
+      subwords = common .subwords;
+      nested = common .nested;
+      capabilities = common .capabilities;
+      length-above = common .length-above;
+    }) (card-own alone q))
 
 -- a block section has the bytes of a block, few enough
 pub block-most : (s : Section) (p : Profile) (i k n : ℕ) → s ≡ Block p i k → n ≡ block-size p → p .length ≤ 255

@@ -26,6 +26,7 @@ fn unsettled_stage(q: Refusal) -> u8
         Refusal::Subwords => 0,
         Refusal::Nested => 0,
         Refusal::Capabilities => 0,
+        Refusal::EqualCapabilities => 0,
         Refusal::Length => 0,
         Refusal::InputSize => 0,
         Refusal::OutputSize => 0,

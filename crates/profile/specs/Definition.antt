@@ -15,8 +15,9 @@ use lib.Dec.{ltb}
 use lib.ListN.{length}
 use Rattle.profile.specs.declared.Profile.{Profile}
 use Rattle.profile.specs.declared.Refusal.{Refusal}
-use Rattle.profile.specs.declared.Refusal.the-variants.{ProfileSize, Subwords, Nested, Capabilities, Length}
-use Rattle.profile.specs.declared.Refusal.the-variants.{InputSize, OutputSize, Unsettled, NotCodeword, Subword}
+use Rattle.profile.specs.declared.Refusal.the-variants.{ProfileSize, Subwords, Nested, Capabilities}
+use Rattle.profile.specs.declared.Refusal.the-variants.{EqualCapabilities, Length, InputSize, OutputSize}
+use Rattle.profile.specs.declared.Refusal.the-variants.{Unsettled, NotCodeword, Subword}
 use Rattle.profile.specs.declared.Parsed.{Parsed}
 use Rattle.profile.specs.declared.Parsed.the-variants.{Accepted, Refused}
 use Rattle.profile.specs.declared.Answer.{Answer}
@@ -43,6 +44,7 @@ number-of ProfileSize = 1
 number-of Subwords = 2
 number-of Nested = 3
 number-of Capabilities = 4
+number-of EqualCapabilities = 15
 number-of Length = 5
 number-of InputSize = 6
 number-of OutputSize = 7

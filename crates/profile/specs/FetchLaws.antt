@@ -4,7 +4,7 @@
 --
 -- Proved: it is so of an accepted fetch; the data positions are in the block; they are some.
 use Prim.Native.Nat.{ℕ, zero, suc, _+_, _-_, _*_, _≤_, _<_}
-use mathlib.Core.Path.{_≡_, refl, ap, ap₂, _∙_, subst}
+use mathlib.Core.Path.{_≡_, refl, ap, ap₂}
 use mathlib.Core.Bool.{false}
 use mathlib.Core.List.{List, [], _∷_}
 use native.Mathlib.Nat.{mul-le-mul-right, suc-mul}
@@ -28,18 +28,18 @@ pub record Within (p : Profile) (s i : ℕ) : Type 0 where
 
 pub fetching-below : (b : List ℕ) (s i : ℕ) (p : Profile) → fetching b s i ≡ Accepted p → i < p .subwords
 fetching-below b s i p e =
-    let (same, (_, (_, (_, (_, (_, (_, (_, (_, (_, (below, _))))))))))) = asked-yes Fetch (lent b s 0 i) (read b) p e in
-    subst (λ q. i < q .subwords) same (ltb-true i (read b .subwords) below)
+    let (_, _, own) = asked-yes Fetch (lent b s 0 i) (read b) p e in
+    ltb-true i (p .subwords) (own .subword-below)
 
 -- n is a byte
 pub accepted : (b : List ℕ) (s i : ℕ) (p : Profile) → fetching b s i ≡ Accepted p → p .length ≤ 255 → Within p s i
 accepted b s i p e small =
-    let (same, (_, (_, (_, (_, (_, (_, (size, _)))))))) = asked-yes Fetch (lent b s 0 i) (read b) p e in
+    let (same, _, own) = asked-yes Fetch (lent b s 0 i) (read b) p e in
     let valid = asked-valid Fetch (lent b s 0 i) (read b) p e (rw (ap (λ q. q .length) same) small) in
     record {
       subword = fetching-below b s i p e;
       some = checks-below p valid i;
-      size = eqb-true s (block-size (read b)) size ∙ ap block-size same;
+      size = eqb-true s (block-size p) (own .input-block);
     }
 
 -- ---- parts

@@ -18,8 +18,9 @@ use lib.Dec.{leb, ltb, eqb}
 use lib.ListN.{length, getD}
 use Rattle.profile.specs.declared.Profile.{Profile}
 use Rattle.profile.specs.declared.Refusal.{Refusal}
-use Rattle.profile.specs.declared.Refusal.the-variants.{ProfileSize, Subwords, Nested, Capabilities, Length}
-use Rattle.profile.specs.declared.Refusal.the-variants.{InputSize, OutputSize, Subword}
+use Rattle.profile.specs.declared.Refusal.the-variants.{ProfileSize, Subwords, Nested, Capabilities}
+use Rattle.profile.specs.declared.Refusal.the-variants.{EqualCapabilities, Length, InputSize, OutputSize}
+use Rattle.profile.specs.declared.Refusal.the-variants.{Subword}
 use Rattle.profile.specs.declared.Parsed.{Parsed}
 use Rattle.profile.specs.declared.Parsed.the-variants.{Accepted, Refused}
 use Rattle.profile.specs.declared.questions.Caller.{Caller}
@@ -103,6 +104,16 @@ good-capabilities p = good-step p 0 && (good-step p 1 && (good-step p 2 && (good
 abbrev pub capabilities : Question
 capabilities = record { asks = everyone; good = λ l p. good-capabilities p; refusal = Capabilities }
 
+-- FORMAT 4.16: t1 < .. < tv. Blocks that were written before it was asked are still read.
+abbrev pub good-rise : Profile → ℕ → Bool
+good-rise p r = ltb (p .nested) (suc r) || ltb (capability p r) (capability p (suc r))
+
+abbrev pub good-rising : Profile → Bool
+good-rising p = good-rise p 1 && good-rise p 2
+
+abbrev pub rising : Question
+rising = record { asks = encodes; good = λ l p. good-rising p; refusal = EqualCapabilities }
+
 -- FORMAT 4.6: n is above 2 × tv. A byte is at most 255.
 abbrev pub good-length : Profile → Bool
 good-length p = ltb (2 * last p) (p .length)
@@ -144,6 +155,7 @@ questions =
     ∷ subwords
     ∷ nested
     ∷ capabilities
+    ∷ rising
     ∷ length-above
     ∷ input-data
     ∷ input-block

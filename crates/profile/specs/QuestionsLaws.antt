@@ -2,14 +2,17 @@
 --
 --   passes c l p q     the question q says no to nothing: the caller c does not ask it, or the answer is yes
 --   Passes c l p qs    all of the questions qs do so
+--   Common n p         .. all that everyone asks, by their names; n is how many bytes the profile p has
+--   Own c l p          .. all others
 --
 -- Proved: who is admitted passes every question, and the profile is the one that was asked about (asked-yes); whoever
 -- passes every question is admitted (asked-all); how the questions are put in their order (asked-in-order, next); the
--- profile that is admitted for any caller is admitted by itself (admitted-profile); what no bytes and some bytes mean
--- (read-none, read-some), and that the length is a byte (read-length). No bytes are answered, whoever asks, as the
--- bytes 8 3 255 14 16 18 24 are (none-means), and are accepted (none-accepted).
+-- profile that is admitted for one caller is admitted for any other whose own questions say no to nothing
+-- (admitted-also), and by itself (admitted-profile); what no bytes and some bytes mean (read-none, read-some), and that
+-- the length is a byte (read-length). No bytes are answered, whoever asks, as the bytes 8 3 255 14 16 18 24 are
+-- (none-means), and are accepted (none-accepted).
 use Prim.Native.Nat.{ℕ, _≤_}
-use mathlib.Core.Path.{_≡_, refl, ap, ap₂, _∙_}
+use mathlib.Core.Path.{_≡_, refl, ap, ap₂, _∙_, subst}
 use mathlib.Core.Bool.{Bool, true, false, cond, _||_}
 use mathlib.Core.List.{List, [], _∷_}
 use native.Mathlib.Omega.{arith}
@@ -17,8 +20,9 @@ use lib.Dec.{ltb, eqb}
 use lib.ListN.{length, getD}
 use Rattle.profile.specs.declared.Profile.{Profile}
 use Rattle.profile.specs.declared.Refusal.{Refusal}
-use Rattle.profile.specs.declared.Refusal.the-variants.{ProfileSize, Subwords, Nested, Capabilities, Length}
-use Rattle.profile.specs.declared.Refusal.the-variants.{InputSize, OutputSize, Subword}
+use Rattle.profile.specs.declared.Refusal.the-variants.{ProfileSize, Subwords, Nested, Capabilities}
+use Rattle.profile.specs.declared.Refusal.the-variants.{EqualCapabilities, Length, InputSize, OutputSize}
+use Rattle.profile.specs.declared.Refusal.the-variants.{Subword}
 use Rattle.profile.specs.declared.Parsed.{Parsed}
 use Rattle.profile.specs.declared.Parsed.the-variants.{Accepted, Refused}
 use Rattle.profile.specs.declared.questions.Caller.{Caller}
@@ -27,7 +31,8 @@ use Rattle.profile.specs.declared.questions.Lent.{Lent}
 use Rattle.profile.specs.Definition.{block-size, data-size}
 use Rattle.profile.specs.Questions.{Question, questions, put, put-all, asked, read, admitted, profile-of}
 use Rattle.profile.specs.Questions.{lent, encodes, decodes, fetches, extracts, good-subwords, good-nested}
-use Rattle.profile.specs.Questions.{good-capabilities, good-length, good-size, fields, factory}
+use Rattle.profile.specs.Questions.{good-capabilities, good-rising, good-length, good-size, fields, factory}
+use Rattle.profile.specs.Questions as question
 
 abbrev pub passes : Caller → Lent → Profile → Question → Bool
 passes c l p q = cond (q .asks c) (q .good l p) true
@@ -35,6 +40,37 @@ passes c l p q = cond (q .asks c) (q .good l p) true
 abbrev pub Passes : Caller → Lent → Profile → List Question → Type 0
 Passes c l p [] = Unit
 Passes c l p (q ∷ qs) = (passes c l p q ≡ true) × Passes c l p qs
+
+-- the questions that everyone asks are answered by yes
+pub record Common (n : ℕ) (p : Profile) : Type 0 where
+  pub profile-size : good-size n ≡ true
+  pub subwords : good-subwords p ≡ true
+  pub nested : good-nested p ≡ true
+  pub capabilities : good-capabilities p ≡ true
+  pub length-above : good-length p ≡ true
+
+-- the others say no to nothing
+pub record Own (c : Caller) (l : Lent) (p : Profile) : Type 0 where
+  pub rising : passes c l p question.rising ≡ true
+  pub input-data : passes c l p question.input-data ≡ true
+  pub input-block : passes c l p question.input-block ≡ true
+  pub output-block : passes c l p question.output-block ≡ true
+  pub output-data : passes c l p question.output-data ≡ true
+  pub subword-below : passes c l p question.subword-below ≡ true
+
+pub card-own : (l : Lent) (p : Profile) → Own Card l p
+card-own l p = record {
+  rising = refl;
+  input-data = refl;
+  input-block = refl;
+  output-block = refl;
+  output-data = refl;
+  subword-below = refl;
+}
+
+-- two facts as one
+pair : {A B : Type 0} → A → B → A × B
+pair a b = (a, b)
 
 -- one question
 put-yes : (asks good : Bool) (q : Refusal) (a : Parsed) (r : Profile) → put asks good q a ≡ Accepted r
@@ -56,17 +92,44 @@ module _ (c : Caller) (l : Lent) (p : Profile) where
       let (first, now) = put-yes (q .asks c) (q .good l p) (q .refusal) a r before in
       (first, (now, rest))
 
-  pub asked-yes : (r : Profile) → asked c l p ≡ Accepted r → (p ≡ r) × Passes c l p questions
+  pub asked-yes : (r : Profile) → asked c l p ≡ Accepted r → (p ≡ r) × Common (l .profile) r × Own c l r
   unfolding asked
-  asked-yes r e = let (same, rest) = all-yes questions (Accepted p) r e in (cc, rest)
+  asked-yes r e =
+      let (accepts, (q1, (q2, (q3, (q4, (q15, (q5, (data-in, (block-in, (block-out, (data-out, (q10, _)))))))))))) =
+      all-yes questions (Accepted p) r e in
+      let same : p ≡ r = cc in (
+        same,
+        subst (Common (l .profile)) same
+            (record { profile-size = q1; subwords = q2; nested = q3; capabilities = q4; length-above = q5 }),
+        subst (Own c l) same (record {
+          rising = q15;
+          input-data = data-in;
+          input-block = block-in;
+          output-block = block-out;
+          output-data = data-out;
+          subword-below = q10;
+        }),
+      )
 
   all-passed : (qs : List Question) → Passes c l p qs → put-all c l p qs (Accepted p) ≡ Accepted p
   all-passed [] h = refl
   all-passed (q ∷ qs) h = rw (h .0) (all-passed qs (h .1))
 
-  pub asked-all : Passes c l p questions → asked c l p ≡ Accepted p
+  pub asked-all : Common (l .profile) p → Own c l p → asked c l p ≡ Accepted p
   unfolding asked
-  asked-all h = all-passed questions h
+  asked-all common own =
+      all-passed questions
+      (pair (common .profile-size)
+      (pair (common .subwords)
+      (pair (common .nested)
+      (pair (common .capabilities)
+      (pair (own .rising)
+      (pair (common .length-above)
+      (pair (own .input-data)
+      (pair (own .input-block)
+      (pair (own .output-block)
+      (pair (own .output-data)
+      (pair (own .subword-below) tt)))))))))))
 
 -- one question more: b is what was answered, by other names for who asks it and for what is good
 pub next : {a b before : Parsed} {s t g h : Bool} (q : Refusal)
@@ -82,22 +145,26 @@ pub asked-in-order : (c : Caller) (l : Lent) (p : Profile) → asked c l p ≡
     (put ((decodes c || fetches c) || extracts c) (eqb (l .input) (block-size p)) InputSize
     (put (encodes c) (eqb (l .input) (data-size p)) InputSize
     (put true (good-length p) Length
+    (put (encodes c) (good-rising p) EqualCapabilities
     (put true (good-capabilities p) Capabilities
     (put true (good-nested p) Nested
     (put true (good-subwords p) Subwords
-    (put true (good-size (l .profile)) ProfileSize (Accepted p))))))))))
+    (put true (good-size (l .profile)) ProfileSize (Accepted p)))))))))))
 unfolding asked
 asked-in-order c l p = refl
 
-module _ (c : Caller) (b : List ℕ) (d o i : ℕ) (p : Profile) where
-  pub admitted-read : admitted c b d o i ≡ Accepted p → read b ≡ p
-  admitted-read e = asked-yes c (lent b d o i) (read b) p e .0
+module _ (c : Caller) (b : List ℕ) (d o i : ℕ) (p : Profile) (e : admitted c b d o i ≡ Accepted p) where
+  pub admitted-read : read b ≡ p
+  admitted-read = asked-yes c (lent b d o i) (read b) p e .0
 
-  pub admitted-profile : admitted c b d o i ≡ Accepted p → profile-of b ≡ Accepted p
-  admitted-profile e =
-      let (same, (y1, (y2, (y3, (y4, (y5, _)))))) = asked-yes c (lent b d o i) (read b) p e in
-      asked-all Card (lent b 0 0 0) (read b) (y1, (y2, (y3, (y4, (y5, (refl, (refl, (refl, (refl, (refl, tt))))))))))
-      ∙ ap Accepted same
+  -- the caller k, who lends s bytes of input and t of output and names the subword j
+  pub admitted-also : (k : Caller) (s t j : ℕ) → Own k (lent b s t j) p → admitted k b s t j ≡ Accepted p
+  admitted-also k s t j own =
+      let (same, common, _) = asked-yes c (lent b d o i) (read b) p e in
+      ap (asked k (lent b s t j)) same ∙ asked-all k (lent b s t j) p common own
+
+  pub admitted-profile : profile-of b ≡ Accepted p
+  admitted-profile = admitted-also Card 0 0 0 (card-own (lent b 0 0 0) p)
 
 -- ---- what the bytes of a profile mean
 

@@ -4,12 +4,12 @@
 use mathlib.Core.Path.{_≡_, refl}
 use Prim.Native.Nat.{ℕ}
 use mathlib.Core.List.{List, [], _∷_, map}
-use Rattle.profile.specs.declared.Refusal.the-variants.{Capabilities, Length}
+use Rattle.profile.specs.declared.Refusal.the-variants.{Capabilities, EqualCapabilities, Length}
 use Rattle.profile.specs.declared.Parsed.the-variants.{Accepted, Refused}
 use Rattle.profile.specs.declared.questions.Caller.{Caller}
 use Rattle.profile.specs.declared.questions.Caller.the-variants.{Encoder, Decoder, Fetch, Extract, Card}
 use Rattle.profile.specs.Definition.{number-of, data-size}
-use Rattle.profile.specs.Questions.{questions-of, asked, read, profile-of}
+use Rattle.profile.specs.Questions.{questions-of, asked, read, profile-of, writing, reading-of}
 
 -- n must be above 2 × tv, which is 4
 short : profile-of (2 ∷ 1 ∷ 4 ∷ 1 ∷ 2 ∷ 0 ∷ 0 ∷ []) ≡ Refused Length
@@ -29,6 +29,24 @@ too-strong : profile-of (8 ∷ 3 ∷ 255 ∷ 14 ∷ 16 ∷ 18 ∷ 25 ∷ []) ≡
 unfolding asked
 too-strong = refl
 
+-- t1 and t2 are equal: the writer asks about that before it asks about n, and no reader does
+equal-written : writing (3 ∷ 2 ∷ 4 ∷ 1 ∷ 2 ∷ 2 ∷ 0 ∷ []) 2 12 ≡ Refused EqualCapabilities
+unfolding asked
+equal-written = refl
+
+equal-short : reading-of (3 ∷ 2 ∷ 4 ∷ 1 ∷ 2 ∷ 2 ∷ 0 ∷ []) 12 12 ≡ Refused Length
+unfolding asked
+equal-short = refl
+
+equal-read : reading-of (3 ∷ 2 ∷ 5 ∷ 1 ∷ 2 ∷ 2 ∷ 0 ∷ []) 15 15 ≡ Accepted (read (3 ∷ 2 ∷ 5 ∷ 1 ∷ 2 ∷ 2 ∷ 0 ∷ []))
+unfolding asked
+equal-read = refl
+
+-- the zeros after tv are no capabilities
+one-written : writing (2 ∷ 1 ∷ 5 ∷ 1 ∷ 2 ∷ 0 ∷ 0 ∷ []) 4 10 ≡ Accepted (read (2 ∷ 1 ∷ 5 ∷ 1 ∷ 2 ∷ 0 ∷ 0 ∷ []))
+unfolding asked
+one-written = refl
+
 -- the data size of a block of 2040 symbols
 size : data-size (read (8 ∷ 3 ∷ 255 ∷ 14 ∷ 16 ∷ 18 ∷ 24 ∷ [])) ≡ 1784
 size = refl
@@ -38,7 +56,7 @@ size = refl
 abbrev numbers : Caller → List ℕ
 numbers c = map (λ q. number-of (q .refusal)) (questions-of c)
 
-encoder-asks : numbers Encoder ≡ 1 ∷ 2 ∷ 3 ∷ 4 ∷ 5 ∷ 6 ∷ 7 ∷ []
+encoder-asks : numbers Encoder ≡ 1 ∷ 2 ∷ 3 ∷ 4 ∷ 15 ∷ 5 ∷ 6 ∷ 7 ∷ []
 encoder-asks = refl
 
 decoder-asks : numbers Decoder ≡ 1 ∷ 2 ∷ 3 ∷ 4 ∷ 5 ∷ 6 ∷ 7 ∷ []

@@ -7,7 +7,8 @@ ghost use lib.ListN.{getD};
 ghost use Rattle.profile.specs.Definition.{last as Last};
 ghost use Rattle.profile.specs.Questions.{put, read as Read, encodes as Encodes, decodes as Decodes};
 ghost use Rattle.profile.specs.Questions.{fetches as Fetches, extracts as Extracts, good-subwords, good-nested};
-ghost use Rattle.profile.specs.Questions.{good-capabilities, good-length, asked, admitted, factory as Factory};
+ghost use Rattle.profile.specs.Questions.{good-capabilities, good-rising, good-length, asked, admitted};
+ghost use Rattle.profile.specs.Questions.{factory as Factory};
 use crate::Parsed;
 use crate::Profile;
 use crate::Refusal;
@@ -139,6 +140,14 @@ fn capabilities(p: Profile) -> bool
     last(p) <= 24
 }
 
+// Whether t1 < .. < tv.
+fn rising(p: Profile) -> bool
+    ensures { λ b. ⌜ b ≡ good-rising p ⌝ }
+{
+    let v = p.nested;
+    ((v < 2) | (p.t1 < p.t2)) & ((v < 3) | (p.t2 < p.t3))
+}
+
 // Whether n is above 2 × tv.
 fn length(p: Profile) -> bool
     ensures { λ b. ⌜ b ≡ good-length p ⌝ }
@@ -180,17 +189,18 @@ pub fn judge(caller: Caller, l: Lent, p: Profile) -> Parsed
     let size = p.block_size();
     let payload = p.data_size();
     let bytes = l.profile;
-    let a0 = Parsed::Accepted(p);
-    let a1 = ask(a0, true, (bytes == 0) | (bytes == 7), Refusal::ProfileSize);
-    let a2 = ask(a1, true, subwords(p), Refusal::Subwords);
-    let a3 = ask(a2, true, nested(p), Refusal::Nested);
-    let a4 = ask(a3, true, capabilities(p), Refusal::Capabilities);
-    let a5 = ask(a4, true, length(p), Refusal::Length);
-    let a6 = ask(a5, e, l.input == payload, Refusal::InputSize);
-    let a7 = ask(a6, d | f | x, l.input == size, Refusal::InputSize);
-    let a8 = ask(a7, e | d, l.output == size, Refusal::OutputSize);
-    let a9 = ask(a8, x, l.output == payload, Refusal::OutputSize);
-    ask(a9, f, l.subword < p.subwords as usize, Refusal::Subword)
+    let a = Parsed::Accepted(p);
+    let a = ask(a, true, (bytes == 0) | (bytes == 7), Refusal::ProfileSize);
+    let a = ask(a, true, subwords(p), Refusal::Subwords);
+    let a = ask(a, true, nested(p), Refusal::Nested);
+    let a = ask(a, true, capabilities(p), Refusal::Capabilities);
+    let a = ask(a, e, rising(p), Refusal::EqualCapabilities);
+    let a = ask(a, true, length(p), Refusal::Length);
+    let a = ask(a, e, l.input == payload, Refusal::InputSize);
+    let a = ask(a, d | f | x, l.input == size, Refusal::InputSize);
+    let a = ask(a, e | d, l.output == size, Refusal::OutputSize);
+    let a = ask(a, x, l.output == payload, Refusal::OutputSize);
+    ask(a, f, l.subword < p.subwords as usize, Refusal::Subword)
 }
 
 // Gives byte i, 0 where there is none.

@@ -37,7 +37,7 @@ module _ (p : Profile) (ok : Valid p) where
   rounds-joined s zero h = append-nil _
   rounds-joined s (suc r) h =
       let e : 2 * capability p r + (2 * capability p (suc r) - 2 * capability p r) ≡ 2 * capability p (suc r) =
-      omega (arith, ok .rising r h) in
+      omega (arith, ok .ordered r h) in
       joined-append (rounds-of p s r) (round-of p s (suc r) ∷ [])
       ∙ ap₂ _++_ (rounds-joined s r (omega arith)) (append-nil (round-of p s (suc r)))
       ∙ sym (word-split (2 * capability p r) _ s)
@@ -48,5 +48,5 @@ module _ (p : Profile) (ok : Valid p) where
   unfolding rounds-of
   rounds-cong s u zero h e = ap (λ t. t ∷ []) (word-cong (2 * capability p 0) s u e)
   rounds-cong s u (suc r) h e =
-      ap₂ (λ a b. a ++ (b ∷ [])) (rounds-cong s u r (omega arith) (λ j l. e j (omega (arith, ok .rising r h))))
+      ap₂ (λ a b. a ++ (b ∷ [])) (rounds-cong s u r (omega arith) (λ j l. e j (omega (arith, ok .ordered r h))))
       (word-cong _ _ _ (λ i l. drop-at _ s i ∙ e (2 * capability p r + i) (omega arith) ∙ sym (drop-at _ u i)))

@@ -139,10 +139,10 @@ module _ (p : Profile) (ok : Valid p) (f : Form) (r : ℕ) (small : r < p .neste
       go none e =
           ap (λ (s : Series). s j) (extend-open p a b g i l e)
           ∙ window-high a b _ (g .row i) j k
-          ∙ h i l j (omega (arith, ok .rising r small))
+          ∙ h i l j (omega (arith, ok .ordered r small))
       go (some x) e =
           ap (λ (s : Series). s j) (extend-settled p a b g i x e)
-          ∙ h i l j (omega (arith, ok .rising r small))
+          ∙ h i l j (omega (arith, ok .ordered r small))
 
 -- ---- where decoding is
 

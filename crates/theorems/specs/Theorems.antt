@@ -8,9 +8,10 @@
 --   Both f g b y o e k t   y is read to e in the form f and to k in the form g: t is what was handed back, and the two
 --                     are alike
 --
--- Proved: what is written is the one codeword with the data (written-one); data that are written, changed within the
--- condition of FORMAT 6.11 and read are the same, byte for byte (round-trip, trip); two readings of the same bytes end
--- alike (both).
+-- Proved: what a writer accepts has rising capabilities, and what is written is the one codeword with the data
+-- (written-one). Data in a codeword that is changed within the condition of FORMAT 6.11 and read are the same, byte for
+-- byte, whatever the profile is that a reader accepts (round-trip), so those that `encode` writes (trip). Two readings
+-- of the same bytes end alike (both).
 use Prim.Native.Nat.{ℕ, zero, suc, _<_}
 use mathlib.Core.Path.{_≡_, refl, sym, ap, _∙_, subst}
 use mathlib.Core.List.{List, [], _∷_, map}
@@ -22,11 +23,11 @@ use Rattle.profile.specs.declared.Profile.{Profile}
 use Rattle.profile.specs.declared.Parsed.{Parsed}
 use Rattle.profile.specs.declared.Parsed.the-variants.{Accepted, Refused}
 use Rattle.profile.specs.declared.Answer.the-variants as answer
-use Rattle.profile.specs.declared.questions.Caller.the-variants.{Encoder, Card}
+use Rattle.profile.specs.declared.questions.Caller.the-variants.{Encoder}
 use Rattle.profile.specs.Definition.{answer-of, block-size, data-size}
 use Rattle.profile.specs.Questions.{profile-of, writing}
 use Rattle.profile.specs.QuestionsLaws.{admitted-profile}
-use Rattle.profile.specs.Valid.{Valid, admitted-valid, writing-passed}
+use Rattle.profile.specs.Valid.{Valid, Rising, admitted-valid, writing-passed, writing-rising}
 use Rattle.code.specs.Definition.{Encodes}
 use Rattle.code.specs.Encoding.{encoding-some}
 use Rattle.block.specs.Gather.{data-written}
@@ -58,36 +59,28 @@ small-word (x ∷ w) zero = byte-lt x
 small-word (x ∷ w) (suc i) = small-word w i
 
 -- what `encode` writes wherever it accepts
-pub written-one : (p : Profile) (b d o : List ℕ) → Bytes b → profile-of b ≡ Accepted p
-    → answer-of (writing b (length d) (length o)) ≡ answer.Accepted
-    → Valid p × (length d ≡ data-size p) × Written p d (written (writing b (length d) (length o)) d o)
-written-one p b d o small profile says = go (writing b (length d) (length o)) refl says
-  where
-    go : (a : Parsed) → writing b (length d) (length o) ≡ a → answer-of a ≡ answer.Accepted
-        → Valid p × (length d ≡ data-size p) × Written p d (written (writing b (length d) (length o)) d o)
-    go (Refused q) e y = let z : _≡_ {A = ℕ} 0 1 = cc in absurd (omega arith)
-    go (Accepted q) e y =
-        let mine : profile-of b ≡ Accepted q = admitted-profile Encoder b (length d) (length o) 0 q e in
-        let same : q ≡ p = cc in
-        let is : writing b (length d) (length o) ≡ Accepted p = e ∙ ap Accepted same in
-        let ok = admitted-valid Card b 0 0 0 p profile (omega (arith, small 2)) in
-        let (_, size, _) = writing-passed b (length d) (length o) p is (ok .length .1) in
-        let (w, l, f, found-w) = encoding-some p ok (map of d) in
-        let c : written (writing b (length d) (length o)) d o ≡ map byte w =
-        ap (λ a. written a d o) is ∙ ap (found o) found-w in (
-          ok,
-          size,
-          record {
-            size = ap length c ∙ length-map w byte ∙ l;
-            small = subst Bytes (sym c) (small-word w);
-            encodes = rw (c, bytes-word w, bytes-entry d) f;
-            one = λ s long bytes-s code. written-is p ok _ d o s is long bytes-s code;
-          },
-        )
+pub written-one : (p : Profile) (b d o : List ℕ) → Bytes b → writing b (length d) (length o) ≡ Accepted p
+    → Valid p × Rising p × (length d ≡ data-size p) × Written p d (written (writing b (length d) (length o)) d o)
+written-one p b d o small is =
+    let ok = admitted-valid Encoder b (length d) (length o) 0 p is (omega (arith, small 2)) in
+    let (_, size, _) = writing-passed b (length d) (length o) p is (ok .length .1) in
+    let (w, l, f, found-w) = encoding-some p ok (map of d) in
+    let c : written (writing b (length d) (length o)) d o ≡ map byte w =
+    ap (λ a. written a d o) is ∙ ap (found o) found-w in (
+      ok,
+      writing-rising b (length d) (length o) p is,
+      size,
+      record {
+        size = ap length c ∙ length-map w byte ∙ l;
+        small = subst Bytes (sym c) (small-word w);
+        encodes = rw (c, bytes-word w, bytes-entry d) f;
+        one = λ s long bytes-s code. written-is p ok _ d o s is long bytes-s code;
+      },
+    )
 
 -- ---- the round trip
 
--- c is what was written, y what was received, in whatever form it is read
+-- c is what was written, whoever wrote it and when; y is what was received, in whatever form it is read
 pub round-trip : (p : Profile) (b d c y e : List ℕ) → Valid p → profile-of b ≡ Accepted p → length d ≡ data-size p
     → Bytes d → Written p d c → length y ≡ block-size p → length e ≡ data-size p → Restorable p (bytes c) (bytes y)
     → (answer-to (extraction b y (length e)) ≡ answer.Accepted) × (data-in (extraction b y (length e)) e ≡ d)
@@ -103,6 +96,15 @@ Trip b d c y o e t = t .written ≡ answer.Accepted → (p : Profile) → profil
     → length y ≡ block-size p → o ≡ data-size p → Restorable p (bytes c) (bytes y)
     → (t .read .answer ≡ answer.Accepted) × (e ≡ d)
 
+-- who is answered by no refusal is accepted with that profile
+writing-is : (p : Profile) (b : List ℕ) (d o : ℕ) → profile-of b ≡ Accepted p
+    → answer-of (writing b d o) ≡ answer.Accepted → writing b d o ≡ Accepted p
+writing-is p b d o profile says = go (writing b d o) refl says
+  where
+    go : (a : Parsed) → writing b d o ≡ a → answer-of a ≡ answer.Accepted → writing b d o ≡ Accepted p
+    go (Accepted q) e y = let mine = admitted-profile Encoder b d o 0 q e in cc
+    go (Refused q) e y = let z : _≡_ {A = ℕ} 0 1 = cc in absurd (omega arith)
+
 -- from the promises of `encode` and `extract`: o and q are what their outputs held
 pub trip : (b d o c y q e : List ℕ) (t : Answers) → Bytes b → Bytes d
     → t .written ≡ answer-of (writing b (length d) (length o))
@@ -111,7 +113,8 @@ pub trip : (b d o c y q e : List ℕ) (t : Answers) → Bytes b → Bytes d
     → e ≡ data-in (extraction b y (length q)) q
     → Trip b d c y (length q) e t
 trip b d o c y q e t small-b small-d wrote block read symbols says p profile long room r =
-    let (ok, size, w) = written-one p b d o small-b profile (sym wrote ∙ says) in
+    let is = writing-is p b (length d) (length o) profile (sym wrote ∙ says) in
+    let (ok, _, size, w) = written-one p b d o small-b is in
     let (accepted, same) =
     round-trip p b d c y q ok profile size small-d (subst (Written p d) (sym block) w) long room r in
     (read ∙ accepted, symbols ∙ same)
