@@ -83,7 +83,7 @@ def model_cases(c, some):
 def model_writers(c):
     """The profiles that the model's writer judges, with nothing else lent."""
     with stored(cases.profiles) as folder:
-        for as_of, writes, profile, refusal, _ in rows(folder / 'profiles.txt'):
+        for as_of, writes, profile, _, _ in rows(folder / 'profiles.txt'):
             if wanted(as_of) and writes == '1':
                 c.write(bytes(numbers(profile)), b'', 0)
 

@@ -197,7 +197,7 @@ module _ (b : List ℕ) (d o : ℕ) (p : Profile) (e : writing b d o ≡ Accepte
   -- is accepted by a reader, and by one who reads the data
   pub writing-reads : (reading-of b o o ≡ Accepted p) × (extracting b o d ≡ Accepted p)
   writing-reads =
-      let (_, common, own) = asked-yes Encoder (lent b d o 0) (read b) p e in
+      let (_, _, own) = asked-yes Encoder (lent b d o 0) (read b) p e in
       let profile = admitted-profile Encoder b d o 0 p e in
       let input = eqb-true d _ (own .input-data) in
       let output = eqb-true o _ (own .output-block) in
