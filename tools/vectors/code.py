@@ -83,9 +83,10 @@ def model_cases(c, some):
 def model_writers(c):
     """The profiles that the model's writer judges, with nothing else lent."""
     with stored(cases.profiles) as folder:
-        for as_of, writes, profile, _, _ in rows(folder / 'profiles.txt'):
-            if wanted(as_of) and writes == '1':
-                c.write(bytes(numbers(profile)), b'', 0)
+        profiles = [profile for as_of, writes, profile, _, _ in rows(folder / 'profiles.txt')
+                    if wanted(as_of) and writes == '1']
+        for profile in dict.fromkeys(profiles):
+            c.write(bytes(numbers(profile)), b'', 0)
 
 
 def profile_of(m, v, n, t):
@@ -119,8 +120,8 @@ def capabilities(rng, v):
 
 
 def every_shape(c, rng, some):
-    """Writes for every m and v, short and long, and fetches of every subword of the shortest blocks. The two lengths
-    come in the order in which Python goes through a set of them."""
+    """Writes for every m and v, short and long, which are refused where strengths are equal, and fetches of every
+    subword of the shortest blocks. The two lengths come in the order in which Python goes through a set of them."""
     def put(m, v, n, t):
         profile = profile_of(m, v, n, t)
         p = gii.read_profile(profile)[1]

@@ -4,7 +4,7 @@
 --
 -- Proved: it is so of an accepted fetch; the data positions are in the block; they are some.
 use Prim.Native.Nat.{ℕ, zero, suc, _+_, _-_, _*_, _≤_, _<_}
-use mathlib.Core.Path.{_≡_, refl, ap, ap₂}
+use mathlib.Core.Path.{_≡_, refl, ap₂}
 use mathlib.Core.Bool.{false}
 use mathlib.Core.List.{List, [], _∷_}
 use native.Mathlib.Nat.{mul-le-mul-right, suc-mul}
@@ -18,7 +18,7 @@ use Rattle.profile.specs.Definition.{block-size, checks}
 use Rattle.profile.specs.declared.questions.Caller.the-variants.{Fetch}
 use Rattle.profile.specs.Questions.{read, lent, fetching}
 use Rattle.profile.specs.QuestionsLaws.{asked-yes}
-use Rattle.profile.specs.Valid.{asked-valid, checks-below}
+use Rattle.profile.specs.Valid.{common-valid, checks-below}
 use Rattle.profile.specs.FetchDefinition.{between, part, empty}
 
 pub record Within (p : Profile) (s i : ℕ) : Type 0 where
@@ -34,11 +34,10 @@ fetching-below b s i p e =
 -- n is a byte
 pub accepted : (b : List ℕ) (s i : ℕ) (p : Profile) → fetching b s i ≡ Accepted p → p .length ≤ 255 → Within p s i
 accepted b s i p e small =
-    let (same, _, own) = asked-yes Fetch (lent b s 0 i) (read b) p e in
-    let valid = asked-valid Fetch (lent b s 0 i) (read b) p e (rw (ap (λ q. q .length) same) small) in
+    let (_, common, own) = asked-yes Fetch (lent b s 0 i) (read b) p e in
     record {
       subword = fetching-below b s i p e;
-      some = checks-below p valid i;
+      some = checks-below p (common-valid _ p common small) i;
       size = eqb-true s (block-size p) (own .input-block);
     }
 

@@ -104,7 +104,8 @@ good-capabilities p = good-step p 0 && (good-step p 1 && (good-step p 2 && (good
 abbrev pub capabilities : Question
 capabilities = record { asks = everyone; good = λ l p. good-capabilities p; refusal = Capabilities }
 
--- FORMAT 4.16: t1 < .. < tv. Blocks that were written before it was asked are still read.
+-- FORMAT 4.16: t1 < .. < tv, that is t_r < t_(r+1) for each r from 1 on that is below v. Whoever reads does not ask:
+-- what was written under equal capabilities is still read.
 abbrev pub good-rise : Profile → ℕ → Bool
 good-rise p r = ltb (p .nested) (suc r) || ltb (capability p r) (capability p (suc r))
 

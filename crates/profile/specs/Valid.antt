@@ -75,7 +75,7 @@ module _ (p : Profile) (v : p .nested ≤ 3) (good : good-capabilities p ≡ tru
       (step (suc (suc r)) (omega arith)))
 
 -- n is a byte
-common-valid : (s : ℕ) (p : Profile) → Common s p → p .length ≤ 255 → Valid p
+pub common-valid : (s : ℕ) (p : Profile) → Common s p → p .length ≤ 255 → Valid p
 common-valid s p common small =
     let good = common .capabilities in
     let (m1, m2) = and-eq-true-iff (leb 1 (p .subwords)) _ .0 (common .subwords) in
