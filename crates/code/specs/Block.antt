@@ -14,7 +14,7 @@ use Rattle.field.specs.Field.{α, _⊙_, pow}
 use Rattle.series.specs.Sum.{sum, sum-cong}
 use Rattle.series.specs.Series.{Series}
 use Rattle.profile.specs.declared.Profile.{Profile}
-use Rattle.profile.specs.Definition.{checks, block-size}
+use Rattle.profile.specs.Definition.{first-root, checks, block-size}
 use Rattle.code.specs.Word.{syndrome}
 use Rattle.code.specs.Systematic.{syndrome-cong, syndrome-sum}
 use Rattle.code.specs.Definition.{subword, nested, Codeword, Carries, Encodes}
@@ -59,8 +59,8 @@ module _ (p : Profile) (s t : Series) (same : Agree p 0 s t) where
 
   pub codeword-cong : Codeword p s → Codeword p t
   codeword-cong c = record {
-    subwords = λ i h j l. sym (syndrome-cong (p .length) _ _ (same i (omega arith) h) j) ∙ c .subwords i h j l;
-    nested-words = λ l h j k. sym (syndrome-cong (p .length) _ _ (nested-cong l) j) ∙ c .nested-words l h j k;
+    subwords = λ i h j l. sym (syndrome-cong (first-root p) (p .length) _ _ (same i (omega arith) h) j) ∙ c .subwords i h j l;
+    nested-words = λ l h j k. sym (syndrome-cong (first-root p) (p .length) _ _ (nested-cong l) j) ∙ c .nested-words l h j k;
   }
 
   pub carries-cong : (d : Series) → Carries p d s → Carries p d t
@@ -72,7 +72,7 @@ module _ (p : Profile) (s t : Series) (same : Agree p 0 s t) where
 -- ---- syndromes of nested words
 
 pub syndrome-nested : (p : Profile) (s : Series) (l j : ℕ)
-    → syndrome (p .length) (nested p s l) j
-    ≡ sum (p .subwords) (λ i. pow α (i * l) ⊙ syndrome (p .length) (subword (p .length) s i) j)
+    → syndrome (first-root p) (p .length) (nested p s l) j
+    ≡ sum (p .subwords) (λ i. pow α (i * l) ⊙ syndrome (first-root p) (p .length) (subword (p .length) s i) j)
 unfolding nested
-syndrome-nested p s l j = syndrome-sum (p .subwords) (p .length) _ (subword (p .length) s) j
+syndrome-nested p s l j = syndrome-sum (first-root p) (p .subwords) (p .length) _ (subword (p .length) s) j

@@ -11,7 +11,7 @@ use Rattle.field.specs.Field.{α, _⊙_, pow}
 use Rattle.series.specs.Sum.{sum}
 use Rattle.series.specs.Series.{Series}
 use Rattle.profile.specs.declared.Profile.{Profile}
-use Rattle.profile.specs.Definition.{capability, checks, data-length, data-start}
+use Rattle.profile.specs.Definition.{capability, first-root, checks, data-length, data-start}
 use Rattle.code.specs.Word.{InCode}
 
 -- FORMAT 3.1: the byte at place q of strip i stands at i × n + q of the block
@@ -24,8 +24,8 @@ nested p s l q = sum (p .subwords) (λ i. pow α (i * l) ⊙ subword (p .length)
 
 -- FORMAT 3.5: each strip belongs to the code of strength t0, and nested sum l to that of strength t_(v−l)
 pub record Codeword (p : Profile) (s : Series) : Type 0 where
-  pub subwords : (i : ℕ) → i < p .subwords → InCode (p .length) (p .t0) (subword (p .length) s i)
-  pub nested-words : (l : ℕ) → l < p .nested → InCode (p .length) (capability p (p .nested - l)) (nested p s l)
+  pub subwords : (i : ℕ) → i < p .subwords → InCode (first-root p) (p .length) (p .t0) (subword (p .length) s i)
+  pub nested-words : (l : ℕ) → l < p .nested → InCode (first-root p) (p .length) (capability p (p .nested - l)) (nested p s l)
 
 -- FORMAT 3.7: data fill the data places of strip 0 with rising places, then those of strip 1, and so on
 abbrev pub Carries : Profile → Series → Series → Type 0

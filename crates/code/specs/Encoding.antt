@@ -23,7 +23,7 @@ use Rattle.series.specs.Word.{entry, word, length-word, entry-word, word-ext}
 use Rattle.series.specs.Array.{bytes, bytes-entry}
 use Rattle.series.specs.First.{first, first-one}
 use Rattle.profile.specs.declared.Profile.{Profile}
-use Rattle.profile.specs.Definition.{capability, checks, data-length, data-start, block-size}
+use Rattle.profile.specs.Definition.{capability, first-root, checks, data-length, data-start, block-size}
 use Rattle.profile.specs.Valid.{Valid}
 use Rattle.code.specs.Word.{syndrome, InCode, systematic}
 use Rattle.code.specs.Definition.{subword, nested, Codeword, Carries, Encodes}
@@ -33,15 +33,15 @@ use Rattle.code.specs.Right.{Right, all-right, right-all, right-stays, r
 
 -- ---- decisions
 
-in-code? : (n t : ℕ) (w : Series) → Dec (InCode n t w)
-in-code? n t w = all? (2 * t) (λ j. syndrome n w j ≟ 𝟎)
+in-code? : (f n t : ℕ) (w : Series) → Dec (InCode f n t w)
+in-code? f n t w = all? (2 * t) (λ j. syndrome f n w j ≟ 𝟎)
 
 pub codeword? : (p : Profile) (s : Series) → Dec (Codeword p s)
 codeword? p s =
     Dec·of-iff (λ (a, b). record { subwords = a; nested-words = b }, λ c. (c .subwords, c .nested-words))
     (Dec·and
-    (all? (p .subwords) (λ i. in-code? (p .length) (p .t0) (subword (p .length) s i)))
-    (all? (p .nested) (λ l. in-code? (p .length) (capability p (p .nested - l)) (nested p s l))))
+    (all? (p .subwords) (λ i. in-code? (first-root p) (p .length) (p .t0) (subword (p .length) s i)))
+    (all? (p .nested) (λ l. in-code? (first-root p) (p .length) (capability p (p .nested - l)) (nested p s l))))
 
 carries? : (p : Profile) (d s : Series) → Dec (Carries p d s)
 carries? p d s = all? (p .subwords)
@@ -107,7 +107,7 @@ module _ (p : Profile) (ok : Valid p) (d : Series) where
     given q = d (data-start p i + (q - checks p i)) ⊕ carried p s i q
 
     next : Series
-    next = over (p .length) i (λ q. carried p s i q ⊕ systematic (p .length) (checks p i) given q) s
+    next = over (p .length) i (λ q. carried p s i q ⊕ systematic (first-root p) (p .length) (checks p i) given q) s
 
     next-above : Agree p (suc i) s next
     unfolding next

@@ -14,7 +14,7 @@ use native.Mathlib.Decide.{ℕ-discrete}
 use Rattle.field.specs.Field.{𝟎, _⊕_, ⊕-group, ⊕-cancel}
 use Rattle.series.specs.Series.{Series, ⊞-at}
 use Rattle.profile.specs.declared.Profile.{Profile}
-use Rattle.profile.specs.Definition.{checks, data-length, data-start}
+use Rattle.profile.specs.Definition.{first-root, checks, data-length, data-start}
 use Rattle.profile.specs.Valid.{Valid, checks-below}
 use Rattle.code.specs.Word.{syndrome, systematic}
 use Rattle.code.specs.Systematic.{syndrome-cong, systematic-data, systematic-zero, systematic-unique}
@@ -24,7 +24,7 @@ use Rattle.code.specs.Triangle.{carried, corner, carried-cong, codeword-
 
 pub record Right (p : Profile) (d s : Series) (i : ℕ) : Type 0 where
   pub carries : (q : ℕ) → q < data-length p i → subword (p .length) s i (checks p i + q) ≡ d (data-start p i + q)
-  pub zeros : (j : ℕ) → j < checks p i → syndrome (p .length) (corner p s i) j ≡ 𝟎
+  pub zeros : (j : ℕ) → j < checks p i → syndrome (first-root p) (p .length) (corner p s i) j ≡ 𝟎
 
 pub all-right : (p : Profile) → Valid p → (d s : Series) → ((i : ℕ) → i < p .subwords → Right p d s i) → Encodes p d s
 all-right p ok d s h = record { code = triangle-codeword p s ok (λ i l. h i l .zeros); carries = λ i l. h i l .carries }
@@ -45,7 +45,7 @@ pub right-stays : (p : Profile) (d s t : Series) (i : ℕ)
     → i < p .subwords → Agree p i s t → Right p d s i → Right p d t i
 right-stays p d s t i h same r = record {
   carries = λ q l. sym (same i (omega arith) h (checks p i + q) (omega arith)) ∙ r .carries q l;
-  zeros = λ j l. sym (syndrome-cong (p .length) _ _ (corner-cong p s t i h same) j) ∙ r .zeros j l;
+  zeros = λ j l. sym (syndrome-cong (first-root p) (p .length) _ _ (corner-cong p s t i h same) j) ∙ r .zeros j l;
 }
 
 module _ (p : Profile) (ok : Valid p) (d s t : Series) (i : ℕ) (same : Agree p (suc i) s t) (a : Right p d s i)
@@ -57,7 +57,7 @@ module _ (p : Profile) (ok : Valid p) (d s t : Series) (i : ℕ) (same : Agree p
 
   same-corner : (q : ℕ) → q < p .length → corner p s i q ≡ corner p t i q
   same-corner =
-      systematic-unique (p .length) (checks p i) _ _ (omega (arith, checks-below p ok i))
+      systematic-unique (first-root p) (p .length) (checks p i) _ _ (omega (arith, checks-below p ok i))
       (omega (arith, checks-below p ok i))
       (λ q h l. ⊞-at _ _ q ∙ ap₂ _⊕_ (same-data q h l) (carried-cong p s t i same q l) ∙ sym (⊞-at _ _ q))
       (λ j h. a .zeros j h ∙ sym (b .zeros j h))
@@ -78,17 +78,17 @@ module _ (p : Profile) (ok : Valid p) (d s t : Series) (i : ℕ) (same : Agree p
 pub right-step : (p : Profile) → Valid p → (d s c x : Series) (i : ℕ)
     → ((q : ℕ) → q < p .length → carried p s i q ≡ c q)
     → ((q : ℕ) → q < data-length p i → x (checks p i + q) ≡ d (data-start p i + q) ⊕ c (checks p i + q))
-    → ((q : ℕ) → q < p .length → subword (p .length) s i q ≡ c q ⊕ systematic (p .length) (checks p i) x q)
+    → ((q : ℕ) → q < p .length → subword (p .length) s i q ≡ c q ⊕ systematic (first-root p) (p .length) (checks p i) x q)
     → Right p d s i
 right-step p ok d s c x i carry given is = record {
   carries = λ q l.
       is (checks p i + q) (omega arith)
       ∙ ap (λ t. c (checks p i + q) ⊕ t)
-      (systematic-data (p .length) (checks p i) x (checks p i + q) (omega arith) ∙ given q l)
+      (systematic-data (first-root p) (p .length) (checks p i) x (checks p i + q) (omega arith) ∙ given q l)
       ∙ simp ⊕-group;
   zeros = λ j l.
-      syndrome-cong (p .length) _ (systematic (p .length) (checks p i) x)
+      syndrome-cong (first-root p) (p .length) _ (systematic (first-root p) (p .length) (checks p i) x)
       (λ q r. ⊞-at _ _ q ∙ ap₂ _⊕_ (is q r) (carry q r) ∙ simp ⊕-group) j
-      ∙ systematic-zero (p .length) (checks p i) x (omega (arith, checks-below p ok i))
+      ∙ systematic-zero (first-root p) (p .length) (checks p i) x (omega (arith, checks-below p ok i))
       (omega (arith, checks-below p ok i)) j l;
 }

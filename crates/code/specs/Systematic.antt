@@ -1,7 +1,8 @@
 -- Laws of syndromes and of check symbols.
 --
--- Proved: roots are distinct; syndromes depend on the first n symbols and are linear; the systematic word keeps w's
--- symbols from position k on (systematic-data) and has k zero syndromes (systematic-zero); a word is known from its
+-- Proved: roots are distinct, whatever the first one is (roots-distinct); those from one on are those of another first
+-- root (root-from, syndrome-from); syndromes depend on the first n symbols and are linear; the systematic word keeps
+-- w's symbols from position k on (systematic-data) and has k zero syndromes (systematic-zero); a word is known from its
 -- symbols from position k on and k syndromes (systematic-unique); check symbols are known by their values at the roots
 -- (check-symbols-is).
 use Prim.Native.Nat.{ℕ, _+_, _-_, _≤_, _<_}
@@ -9,7 +10,8 @@ use mathlib.Core.Path.{_≡_, refl, sym, _∙_, ap, ap₂}
 use mathlib.Core.Logic.{by-cases}
 use native.Mathlib.Omega.{arith}
 use native.Mathlib.Decide.{decLe}
-use Rattle.field.specs.Field.{F, 𝟎, _⊕_, _⊙_, zero-⊕, ⊕-self, ⊕-cancel, pow, power-inj}
+use Rattle.field.specs.Field.{F, 𝟎, α, _⊕_, _⊙_, zero-⊕, ⊕-self, ⊕-cancel, ⊙-cancel}
+use Rattle.field.specs.Field.{pow, pow-add, power-inj, power-nonzero}
 use Rattle.series.specs.Sum.{sum}
 use Rattle.series.specs.Series.{Series, _⊞_, ⊞-at}
 use Rattle.series.specs.Shift.{drop, zpow-at, drop-at}
@@ -18,33 +20,40 @@ use Rattle.series.specs.Value.{value, value-cong, value-more, value-split, valu
 use Rattle.series.specs.Interpolation.{Distinct, below-interpolate, interpolate-at, interpolate-unique, interpolate-is}
 use Rattle.code.specs.Word.{root, syndrome, upper, check-symbols, systematic}
 
-first-distinct : (k : ℕ) → k < 255 → Distinct k root
+-- α^f cancels
+pub roots-distinct : (f k : ℕ) → k < 255 → Distinct k (root f)
 unfolding root
-first-distinct k h i j l q e =
-    let z : i + 1 ≡ j + 1 = power-inj (i + 1) (j + 1) (omega arith) (omega arith) e in
-    omega arith
+roots-distinct f k h i j l q e = power-inj i j (omega arith) (omega arith)
+    (⊙-cancel (pow α f) (power-nonzero f) (sym (pow-add α f i) ∙ e ∙ pow-add α f j))
 
-pub roots-distinct : (first k : ℕ) → first + k < 255 → Distinct k (λ j. root (first + j))
-roots-distinct first k h i j l q = first-distinct (first + k) h (first + i) (first + j) (omega arith) (omega arith)
+-- from root a on
+pub root-from : (f a j : ℕ) → root f (a + j) ≡ root (f + a) j
+unfolding root
+root-from f a j = let e : f + (a + j) ≡ f + a + j = omega arith in ap (pow α) e
 
 -- ---- syndromes
 
-pub syndrome-is : (n : ℕ) (w : Series) (j : ℕ) → syndrome n w j ≡ value n w (root j)
+pub syndrome-is : (f n : ℕ) (w : Series) (j : ℕ) → syndrome f n w j ≡ value n w (root f j)
 unfolding syndrome
-syndrome-is n w j = refl
+syndrome-is f n w j = refl
 
-pub syndrome-cong : (n : ℕ) (f g : Series) → ((i : ℕ) → i < n → f i ≡ g i) → (j : ℕ) → syndrome n f j ≡ syndrome n g j
+pub syndrome-from : (f a n : ℕ) (w : Series) (j : ℕ) → syndrome f n w (a + j) ≡ syndrome (f + a) n w j
 unfolding syndrome
-syndrome-cong n f g h j = value-cong n f g (root j) h
+syndrome-from f a n w j = ap (value n w) (root-from f a j)
 
-pub syndrome-⊞ : (n : ℕ) (f g : Series) (j : ℕ) → syndrome n (f ⊞ g) j ≡ syndrome n f j ⊕ syndrome n g j
+pub syndrome-cong : (f n : ℕ) (v w : Series) → ((i : ℕ) → i < n → v i ≡ w i)
+    → (j : ℕ) → syndrome f n v j ≡ syndrome f n w j
 unfolding syndrome
-syndrome-⊞ n f g j = value-⊞ n f g (root j)
+syndrome-cong f n v w h j = value-cong n v w (root f j) h
 
-pub syndrome-sum : (m n : ℕ) (h : ℕ → F) (w : ℕ → Series) (j : ℕ)
-    → syndrome n (λ q. sum m (λ i. h i ⊙ w i q)) j ≡ sum m (λ i. h i ⊙ syndrome n (w i) j)
+pub syndrome-⊞ : (f n : ℕ) (v w : Series) (j : ℕ) → syndrome f n (v ⊞ w) j ≡ syndrome f n v j ⊕ syndrome f n w j
 unfolding syndrome
-syndrome-sum m n h w j = value-sum m n h w (root j)
+syndrome-⊞ f n v w j = value-⊞ n v w (root f j)
+
+pub syndrome-sum : (f m n : ℕ) (h : ℕ → F) (w : ℕ → Series) (j : ℕ)
+    → syndrome f n (λ q. sum m (λ i. h i ⊙ w i q)) j ≡ sum m (λ i. h i ⊙ syndrome f n (w i) j)
+unfolding syndrome
+syndrome-sum f m n h w j = value-sum m n h w (root f j)
 
 -- ---- the systematic word
 
@@ -52,49 +61,49 @@ upper-high : (k : ℕ) (w : Series) (i : ℕ) → k ≤ i → upper k w i ≡ w 
 unfolding upper
 upper-high k w i h = let e : i ≡ k + (i - k) = omega arith in rw e (zpow-at k (drop k w) (i - k) ∙ drop-at k w (i - k))
 
-pub below-check-symbols : (n k : ℕ) (w : Series) → below k (check-symbols n k w)
+pub below-check-symbols : (f n k : ℕ) (w : Series) → below k (check-symbols f n k w)
 unfolding check-symbols
-below-check-symbols n k w = below-interpolate k root _
+below-check-symbols f n k w = below-interpolate k (root f) _
 
-systematic-at : (n k : ℕ) (w : Series) (i : ℕ) → systematic n k w i ≡ check-symbols n k w i ⊕ upper k w i
+systematic-at : (f n k : ℕ) (w : Series) (i : ℕ) → systematic f n k w i ≡ check-symbols f n k w i ⊕ upper k w i
 unfolding systematic
-systematic-at n k w i = ⊞-at _ _ i
+systematic-at f n k w i = ⊞-at _ _ i
 
-pub systematic-data : (n k : ℕ) (w : Series) (i : ℕ) → k ≤ i → systematic n k w i ≡ w i
-systematic-data n k w i h = systematic-at n k w i
-    ∙ ap₂ _⊕_ (below-check-symbols n k w i h) (upper-high k w i h) ∙ zero-⊕ (w i)
+pub systematic-data : (f n k : ℕ) (w : Series) (i : ℕ) → k ≤ i → systematic f n k w i ≡ w i
+systematic-data f n k w i h = systematic-at f n k w i
+    ∙ ap₂ _⊕_ (below-check-symbols f n k w i h) (upper-high k w i h) ∙ zero-⊕ (w i)
 
-pub systematic-zero : (n k : ℕ) (w : Series) → k < 255 → k ≤ n → (j : ℕ) → j < k → syndrome n (systematic n k w) j ≡ 𝟎
+pub systematic-zero : (f n k : ℕ) (w : Series) → k < 255 → k ≤ n → (j : ℕ) → j < k → syndrome f n (systematic f n k w) j ≡ 𝟎
 unfolding systematic check-symbols
-systematic-zero n k w small room j h =
-    syndrome-⊞ n _ _ j
-    ∙ ap (λ t. t ⊕ syndrome n (upper k w) j)
-    (syndrome-is n _ j ∙ value-more k n _ (root j) (below-interpolate k root _) room
-    ∙ interpolate-at k root _ (first-distinct k small) j h)
+systematic-zero f n k w small room j h =
+    syndrome-⊞ f n _ _ j
+    ∙ ap (λ t. t ⊕ syndrome f n (upper k w) j)
+    (syndrome-is f n _ j ∙ value-more k n _ (root f j) (below-interpolate k (root f) _) room
+    ∙ interpolate-at k (root f) _ (roots-distinct f k small) j h)
     ∙ ⊕-self _
 
 -- two words with the same symbols from position k on and the same k syndromes
-pub systematic-unique : (n k : ℕ) (f g : Series) → k < 255 → k ≤ n → ((i : ℕ) → k ≤ i → i < n → f i ≡ g i)
-    → ((j : ℕ) → j < k → syndrome n f j ≡ syndrome n g j) → (i : ℕ) → i < n → f i ≡ g i
+pub systematic-unique : (f n k : ℕ) (v w : Series) → k < 255 → k ≤ n → ((i : ℕ) → k ≤ i → i < n → v i ≡ w i)
+    → ((j : ℕ) → j < k → syndrome f n v j ≡ syndrome f n w j) → (i : ℕ) → i < n → v i ≡ w i
 unfolding syndrome
-systematic-unique n k f g small room same s i h =
+systematic-unique f n k v w small room same s i h =
     by-cases (decLe k i) (λ l. same i l h)
-    (λ l. interpolate-unique k f g root (first-distinct k small) low i (omega arith))
+    (λ l. interpolate-unique k v w (root f) (roots-distinct f k small) low i (omega arith))
   where
-    split : (w : Series) (x : F) → value n w x ≡ value k w x ⊕ pow x k ⊙ value (n - k) (drop k w) x
-    split w x = let e : n ≡ k + (n - k) = omega arith in ap (λ m. value m w x) e ∙ value-split k (n - k) w x
+    split : (u : Series) (x : F) → value n u x ≡ value k u x ⊕ pow x k ⊙ value (n - k) (drop k u) x
+    split u x = let e : n ≡ k + (n - k) = omega arith in ap (λ m. value m u x) e ∙ value-split k (n - k) u x
 
-    high : (x : F) → value (n - k) (drop k f) x ≡ value (n - k) (drop k g) x
+    high : (x : F) → value (n - k) (drop k v) x ≡ value (n - k) (drop k w) x
     high x =
-        value-cong (n - k) _ _ x (λ i l. drop-at k f i ∙ same (k + i) (omega arith) (omega arith) ∙ sym (drop-at k g i))
+        value-cong (n - k) _ _ x (λ i l. drop-at k v i ∙ same (k + i) (omega arith) (omega arith) ∙ sym (drop-at k w i))
 
-    low : (j : ℕ) → j < k → value k f (root j) ≡ value k g (root j)
-    low j l = ⊕-cancel _ (ap (λ t. value k f (root j) ⊕ pow (root j) k ⊙ t) (sym (high (root j)))
-        ∙ sym (split f (root j)) ∙ s j l ∙ split g (root j))
+    low : (j : ℕ) → j < k → value k v (root f j) ≡ value k w (root f j)
+    low j l = ⊕-cancel _ (ap (λ t. value k v (root f j) ⊕ pow (root f j) k ⊙ t) (sym (high (root f j)))
+        ∙ sym (split v (root f j)) ∙ s j l ∙ split w (root f j))
 
 -- k symbols with the values of the symbols above
-pub check-symbols-is : (n k : ℕ) (w r : Series) → k < 255 → below k r
-    → ((j : ℕ) → j < k → value k r (root j) ≡ syndrome n (upper k w) j)
-    → r ≡ check-symbols n k w
+pub check-symbols-is : (f n k : ℕ) (w r : Series) → k < 255 → below k r
+    → ((j : ℕ) → j < k → value k r (root f j) ≡ syndrome f n (upper k w) j)
+    → r ≡ check-symbols f n k w
 unfolding check-symbols
-check-symbols-is n k w r small b h = interpolate-is k r root _ (first-distinct k small) b h
+check-symbols-is f n k w r small b h = interpolate-is k r (root f) _ (roots-distinct f k small) b h

@@ -22,7 +22,7 @@ use Rattle.field.specs.Field.{⊙-ring, inv, mul-inv, ⊙-factor}
 use Rattle.series.specs.Sum.{sum, sum-suc, sum-cong, sum-zero, ⊙-sum, sum-split}
 use Rattle.series.specs.Series.{Series, _⊞_}
 use Rattle.profile.specs.declared.Profile.{Profile}
-use Rattle.profile.specs.Definition.{capability, checks}
+use Rattle.profile.specs.Definition.{capability, first-root, checks}
 use Rattle.profile.specs.Valid.{Valid, checks-is, checks-high, checks-mono, checks-least}
 use Rattle.code.specs.Word.{syndrome, InCode}
 use Rattle.code.specs.Systematic.{syndrome-⊞, syndrome-sum}
@@ -40,7 +40,7 @@ abbrev pub corner : Profile → Series → ℕ → Series
 corner p s i = subword (p .length) s i ⊞ carried p s i
 
 abbrev pub Triangle : Profile → Series → Type 0
-Triangle p s = (i : ℕ) → i < p .subwords → (j : ℕ) → j < checks p i → syndrome (p .length) (corner p s i) j ≡ 𝟎
+Triangle p s = (i : ℕ) → i < p .subwords → (j : ℕ) → j < checks p i → syndrome (first-root p) (p .length) (corner p s i) j ≡ 𝟎
 
 pub ratio-low : (v i k : ℕ) → i < v → ratio v i k ≡ newton i k ⊙ inv (newton i i)
 unfolding ratio
@@ -109,21 +109,21 @@ carried-high p s i q h = above-high (p .subwords) (p .nested) (λ k. subword (p 
 module _ (p : Profile) (s : Series) where
   -- syndrome j of each subword
   each : ℕ → ℕ → F
-  each j k = syndrome (p .length) (subword (p .length) s k) j
+  each j k = syndrome (first-root p) (p .length) (subword (p .length) s k) j
 
   corner-syndrome : (i j : ℕ)
-      → syndrome (p .length) (corner p s i) j ≡ each j i ⊕ above (p .subwords) (p .nested) (each j) i
+      → syndrome (first-root p) (p .length) (corner p s i) j ≡ each j i ⊕ above (p .subwords) (p .nested) (each j) i
   unfolding carried each above
   corner-syndrome i j =
-      syndrome-⊞ (p .length) _ _ j
+      syndrome-⊞ (first-root p) (p .length) _ _ j
       ∙ ap (λ t. each j i ⊕ t)
-      (syndrome-sum (p .subwords - suc i) (p .length) _ (λ k. subword (p .length) s (suc i + k)) j)
+      (syndrome-sum (first-root p) (p .subwords - suc i) (p .length) _ (λ k. subword (p .length) s (suc i + k)) j)
 
   module _ (ok : Valid p) where
     -- the first v subwords are not asked for
     pub checked-triangle : ((i : ℕ) → p .nested ≤ i → i < p .subwords
-        → InCode (p .length) (p .t0) (subword (p .length) s i))
-        → ((l : ℕ) → l < p .nested → InCode (p .length) (capability p (p .nested - l)) (nested p s l)) → Triangle p s
+        → InCode (first-root p) (p .length) (p .t0) (subword (p .length) s i))
+        → ((l : ℕ) → l < p .nested → InCode (first-root p) (p .length) (capability p (p .nested - l)) (nested p s l)) → Triangle p s
     unfolding each
     checked-triangle high low i h j q = corner-syndrome i j ∙ go (decLt i (p .nested))
       where
@@ -145,7 +145,7 @@ module _ (p : Profile) (s : Series) where
     module _ (t : Triangle p s) where
       -- from the last subword down: r of them are left
       subwords-from : (r i : ℕ) → i < p .subwords → p .subwords ≤ i + r
-          → InCode (p .length) (p .t0) (subword (p .length) s i)
+          → InCode (first-root p) (p .length) (p .t0) (subword (p .length) s i)
       unfolding each above
       subwords-from zero i h l j q = absurd (omega arith)
       subwords-from (suc r) i h l j q =
@@ -156,7 +156,7 @@ module _ (p : Profile) (s : Series) where
           ∙ sym (corner-syndrome i j)
           ∙ t i h j (omega (arith, checks-least p ok i))
 
-      nested-from : (l : ℕ) → l < p .nested → InCode (p .length) (capability p (p .nested - l)) (nested p s l)
+      nested-from : (l : ℕ) → l < p .nested → InCode (first-root p) (p .length) (capability p (p .nested - l)) (nested p s l)
       unfolding each
       nested-from l h j q =
           syndrome-nested p s l j

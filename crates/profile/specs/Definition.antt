@@ -1,6 +1,7 @@
 -- Profiles, refusals with their numbers, and sizes.
 --
 --   capability p r   t_r, 0 past t_3
+--   first-root p     f: the first root is α^f
 --   last p           t_v
 --   answer-of a      the answer alone
 --   number-of q      the number of a refusal; answer-number a: 0, or that of the refusal
@@ -16,8 +17,8 @@ use lib.ListN.{length}
 use Rattle.profile.specs.declared.Profile.{Profile}
 use Rattle.profile.specs.declared.Refusal.{Refusal}
 use Rattle.profile.specs.declared.Refusal.the-variants.{ProfileSize, Subwords, Nested, Capabilities}
-use Rattle.profile.specs.declared.Refusal.the-variants.{EqualCapabilities, Length, InputSize, OutputSize}
-use Rattle.profile.specs.declared.Refusal.the-variants.{Unsettled, NotCodeword, Subword}
+use Rattle.profile.specs.declared.Refusal.the-variants.{EqualCapabilities, Length, FirstRoot, InputSize}
+use Rattle.profile.specs.declared.Refusal.the-variants.{OutputSize, Unsettled, NotCodeword, Subword}
 use Rattle.profile.specs.declared.Parsed.{Parsed}
 use Rattle.profile.specs.declared.Parsed.the-variants.{Accepted, Refused}
 use Rattle.profile.specs.declared.Answer.{Answer}
@@ -33,6 +34,9 @@ capability p (suc (suc (suc (suc r)))) = 0
 abbrev pub last : Profile → ℕ
 last p = capability p (p .nested)
 
+abbrev pub first-root : Profile → ℕ
+first-root p = p .«first_root»
+
 -- ---- answers
 
 abbrev pub answer-of : Parsed → Answer
@@ -46,6 +50,7 @@ number-of Nested = 3
 number-of Capabilities = 4
 number-of EqualCapabilities = 15
 number-of Length = 5
+number-of FirstRoot = 14
 number-of InputSize = 6
 number-of OutputSize = 7
 number-of (Unsettled r) = 8

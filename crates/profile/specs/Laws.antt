@@ -9,8 +9,8 @@ use native.Mathlib.Omega.{arith}
 use Rattle.profile.specs.declared.Profile.{Profile}
 use Rattle.profile.specs.declared.Refusal.{Refusal}
 use Rattle.profile.specs.declared.Refusal.the-variants.{ProfileSize, Subwords, Nested, Capabilities}
-use Rattle.profile.specs.declared.Refusal.the-variants.{EqualCapabilities, Length, InputSize, OutputSize}
-use Rattle.profile.specs.declared.Refusal.the-variants.{Unsettled, NotCodeword, Subword}
+use Rattle.profile.specs.declared.Refusal.the-variants.{EqualCapabilities, Length, FirstRoot, InputSize}
+use Rattle.profile.specs.declared.Refusal.the-variants.{OutputSize, Unsettled, NotCodeword, Subword}
 use Rattle.profile.specs.declared.Answer.{Answer}
 use Rattle.profile.specs.declared.Answer.the-variants.{Accepted, Refused}
 use Rattle.profile.specs.Definition.{capability, number-of, answer-number, unless-refused}
@@ -41,6 +41,7 @@ numbered Nested e = omega arith
 numbered Capabilities e = omega arith
 numbered EqualCapabilities e = omega arith
 numbered Length e = omega arith
+numbered FirstRoot e = omega arith
 numbered InputSize e = omega arith
 numbered OutputSize e = omega arith
 numbered (Unsettled r) e = omega arith

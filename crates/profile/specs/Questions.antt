@@ -19,14 +19,14 @@ use lib.ListN.{length, getD}
 use Rattle.profile.specs.declared.Profile.{Profile}
 use Rattle.profile.specs.declared.Refusal.{Refusal}
 use Rattle.profile.specs.declared.Refusal.the-variants.{ProfileSize, Subwords, Nested, Capabilities}
-use Rattle.profile.specs.declared.Refusal.the-variants.{EqualCapabilities, Length, InputSize, OutputSize}
-use Rattle.profile.specs.declared.Refusal.the-variants.{Subword}
+use Rattle.profile.specs.declared.Refusal.the-variants.{EqualCapabilities, Length, FirstRoot, InputSize}
+use Rattle.profile.specs.declared.Refusal.the-variants.{OutputSize, Subword}
 use Rattle.profile.specs.declared.Parsed.{Parsed}
 use Rattle.profile.specs.declared.Parsed.the-variants.{Accepted, Refused}
 use Rattle.profile.specs.declared.questions.Caller.{Caller}
 use Rattle.profile.specs.declared.questions.Caller.the-variants.{Encoder, Decoder, Fetch, Extract, Card}
 use Rattle.profile.specs.declared.questions.Lent.{Lent}
-use Rattle.profile.specs.Definition.{capability, last, block-size, data-size}
+use Rattle.profile.specs.Definition.{capability, first-root, last, block-size, data-size}
 
 -- ---- who asks
 
@@ -68,9 +68,9 @@ pub record Question : Type 0 where
   pub good : Lent → Profile → Bool
   pub refusal : Refusal
 
--- FORMAT 4.2: the profile has no bytes, or seven
+-- FORMAT 4.2: the profile has no bytes, or seven, or eight
 abbrev pub good-size : ℕ → Bool
-good-size n = eqb n 0 || eqb n 7
+good-size n = (eqb n 0 || eqb n 7) || eqb n 8
 
 abbrev pub profile-size : Question
 profile-size = record { asks = everyone; good = λ l p. good-size (l .profile); refusal = ProfileSize }
@@ -122,6 +122,13 @@ good-length p = ltb (2 * last p) (p .length)
 abbrev pub length-above : Question
 length-above = record { asks = everyone; good = λ l p. good-length p; refusal = Length }
 
+-- FORMAT 4.17: f is at most 254
+abbrev pub good-root : Profile → Bool
+good-root p = leb (first-root p) 254
+
+abbrev pub root-below : Question
+root-below = record { asks = everyone; good = λ l p. good-root p; refusal = FirstRoot }
+
 -- FORMAT 4.7: the input is as long as it has to be: the data of a block, or a block
 abbrev pub input-data : Question
 input-data = record { asks = encodes; good = λ l p. eqb (l .input) (data-size p); refusal = InputSize }
@@ -158,6 +165,7 @@ questions =
     ∷ capabilities
     ∷ rising
     ∷ length-above
+    ∷ root-below
     ∷ input-data
     ∷ input-block
     ∷ output-block
@@ -187,7 +195,7 @@ asked c l p = put-all c l p questions (Accepted p)
 
 -- ---- the bytes of a profile
 
--- FORMAT 2.1: the bytes one after the other
+-- FORMAT 2.1: the bytes one after the other; the eighth, which may be missing, is 1 then
 abbrev pub fields : List ℕ → Profile
 fields b = record {
   subwords = getD b 0 0;
@@ -197,11 +205,21 @@ fields b = record {
   t1 = getD b 4 0;
   t2 = getD b 5 0;
   t3 = getD b 6 0;
+  «first_root» = getD b 7 1;
 }
 
 -- FORMAT 2.6: the profile of the cards that leave it out
 abbrev pub factory : Profile
-factory = record { subwords = 8; nested = 3; length = 255; t0 = 14; t1 = 16; t2 = 18; t3 = 24 }
+factory = record {
+  subwords = 8;
+  nested = 3;
+  length = 255;
+  t0 = 14;
+  t1 = 16;
+  t2 = 18;
+  t3 = 24;
+  «first_root» = 1;
+}
 
 abbrev pub read : List ℕ → Profile
 read [] = factory

@@ -10,7 +10,8 @@
 -- profile that is admitted for one caller is admitted for any other whose own questions say no to nothing
 -- (admitted-also), and by itself (admitted-profile); what no bytes and some bytes mean (read-none, read-some), and that
 -- the length is a byte (read-length). No bytes are answered, whoever asks, as the bytes 8 3 255 14 16 18 24 are
--- (none-means), and are accepted (none-accepted).
+-- (none-means), and are accepted (none-accepted). Seven bytes are answered as they are with an eighth byte of 1
+-- (seven-means).
 use Prim.Native.Nat.{ℕ, _≤_}
 use mathlib.Core.Path.{_≡_, refl, ap, ap₂, _∙_, subst}
 use mathlib.Core.Bool.{Bool, true, false, cond, _||_}
@@ -21,8 +22,8 @@ use lib.ListN.{length, getD}
 use Rattle.profile.specs.declared.Profile.{Profile}
 use Rattle.profile.specs.declared.Refusal.{Refusal}
 use Rattle.profile.specs.declared.Refusal.the-variants.{ProfileSize, Subwords, Nested, Capabilities}
-use Rattle.profile.specs.declared.Refusal.the-variants.{EqualCapabilities, Length, InputSize, OutputSize}
-use Rattle.profile.specs.declared.Refusal.the-variants.{Subword}
+use Rattle.profile.specs.declared.Refusal.the-variants.{EqualCapabilities, Length, FirstRoot, InputSize}
+use Rattle.profile.specs.declared.Refusal.the-variants.{OutputSize, Subword}
 use Rattle.profile.specs.declared.Parsed.{Parsed}
 use Rattle.profile.specs.declared.Parsed.the-variants.{Accepted, Refused}
 use Rattle.profile.specs.declared.questions.Caller.{Caller}
@@ -31,7 +32,8 @@ use Rattle.profile.specs.declared.questions.Lent.{Lent}
 use Rattle.profile.specs.Definition.{block-size, data-size}
 use Rattle.profile.specs.Questions.{Question, questions, put, put-all, asked, read, admitted, profile-of}
 use Rattle.profile.specs.Questions.{lent, encodes, decodes, fetches, extracts, good-subwords, good-nested}
-use Rattle.profile.specs.Questions.{good-capabilities, good-rising, good-length, good-size, fields, factory}
+use Rattle.profile.specs.Questions.{good-capabilities, good-rising, good-length, good-root, good-size}
+use Rattle.profile.specs.Questions.{fields, factory}
 use Rattle.profile.specs.Questions as question
 
 abbrev pub passes : Caller → Lent → Profile → Question → Bool
@@ -48,6 +50,7 @@ pub record Common (n : ℕ) (p : Profile) : Type 0 where
   pub nested : good-nested p ≡ true
   pub capabilities : good-capabilities p ≡ true
   pub length-above : good-length p ≡ true
+  pub root-below : good-root p ≡ true
 
 -- the others say no to nothing
 pub record Own (c : Caller) (l : Lent) (p : Profile) : Type 0 where
@@ -95,12 +98,19 @@ module _ (c : Caller) (l : Lent) (p : Profile) where
   pub asked-yes : (r : Profile) → asked c l p ≡ Accepted r → (p ≡ r) × Common (l .profile) r × Own c l r
   unfolding asked
   asked-yes r e =
-      let (accepts, (q1, (q2, (q3, (q4, (q15, (q5, (data-in, (block-in, (block-out, (data-out, (q10, _)))))))))))) =
+      let (accepts, (q1, (q2, (q3, (q4, (q15, (q5, (q14, (data-in, (block-in, (block-out, (data-out, (q10, _))))))))))))) =
       all-yes questions (Accepted p) r e in
       let same : p ≡ r = cc in (
         same,
         subst (Common (l .profile)) same
-            (record { profile-size = q1; subwords = q2; nested = q3; capabilities = q4; length-above = q5 }),
+            (record {
+              profile-size = q1;
+              subwords = q2;
+              nested = q3;
+              capabilities = q4;
+              length-above = q5;
+              root-below = q14;
+            }),
         subst (Own c l) same (record {
           rising = q15;
           input-data = data-in;
@@ -125,11 +135,12 @@ module _ (c : Caller) (l : Lent) (p : Profile) where
       (pair (common .capabilities)
       (pair (own .rising)
       (pair (common .length-above)
+      (pair (common .root-below)
       (pair (own .input-data)
       (pair (own .input-block)
       (pair (own .output-block)
       (pair (own .output-data)
-      (pair (own .subword-below) tt)))))))))))
+      (pair (own .subword-below) tt))))))))))))
 
 -- one question more: b is what was answered, by other names for who asks it and for what is good
 pub next : {a b before : Parsed} {s t g h : Bool} (q : Refusal)
@@ -144,12 +155,13 @@ pub asked-in-order : (c : Caller) (l : Lent) (p : Profile) → asked c l p ≡
     (put (encodes c || decodes c) (eqb (l .output) (block-size p)) OutputSize
     (put ((decodes c || fetches c) || extracts c) (eqb (l .input) (block-size p)) InputSize
     (put (encodes c) (eqb (l .input) (data-size p)) InputSize
+    (put true (good-root p) FirstRoot
     (put true (good-length p) Length
     (put (encodes c) (good-rising p) EqualCapabilities
     (put true (good-capabilities p) Capabilities
     (put true (good-nested p) Nested
     (put true (good-subwords p) Subwords
-    (put true (good-size (l .profile)) ProfileSize (Accepted p)))))))))))
+    (put true (good-size (l .profile)) ProfileSize (Accepted p))))))))))))
 unfolding asked
 asked-in-order c l p = refl
 
@@ -186,6 +198,13 @@ pub none-means : (c : Caller) (d o i : ℕ)
     → admitted c [] d o i ≡ admitted c (8 ∷ 3 ∷ 255 ∷ 14 ∷ 16 ∷ 18 ∷ 24 ∷ []) d o i
 unfolding asked
 none-means c d o i = refl
+
+-- an eighth byte of 1 says what seven bytes say
+pub seven-means : (c : Caller) (m v n t0 t1 t2 t3 d o i : ℕ)
+    → admitted c (m ∷ v ∷ n ∷ t0 ∷ t1 ∷ t2 ∷ t3 ∷ []) d o i
+    ≡ admitted c (m ∷ v ∷ n ∷ t0 ∷ t1 ∷ t2 ∷ t3 ∷ 1 ∷ []) d o i
+unfolding asked
+seven-means c m v n t0 t1 t2 t3 d o i = refl
 
 pub none-accepted : profile-of [] ≡ Accepted factory
 unfolding asked

@@ -4,7 +4,7 @@
 use mathlib.Core.Path.{_≡_, refl}
 use Prim.Native.Nat.{ℕ}
 use mathlib.Core.List.{List, [], _∷_, map}
-use Rattle.profile.specs.declared.Refusal.the-variants.{Capabilities, EqualCapabilities, Length}
+use Rattle.profile.specs.declared.Refusal.the-variants.{Capabilities, EqualCapabilities, Length, FirstRoot}
 use Rattle.profile.specs.declared.Parsed.the-variants.{Accepted, Refused}
 use Rattle.profile.specs.declared.questions.Caller.{Caller}
 use Rattle.profile.specs.declared.questions.Caller.the-variants.{Encoder, Decoder, Fetch, Extract, Card}
@@ -47,6 +47,20 @@ one-written : writing (2 ∷ 1 ∷ 5 ∷ 1 ∷ 2 ∷ 0 ∷ 0 ∷ []) 4 10 ≡ Ac
 unfolding asked
 one-written = refl
 
+-- the first root is α^0 to α^254, and n is asked about before it
+last-root : profile-of (2 ∷ 1 ∷ 5 ∷ 1 ∷ 2 ∷ 0 ∷ 0 ∷ 254 ∷ [])
+    ≡ Accepted (read (2 ∷ 1 ∷ 5 ∷ 1 ∷ 2 ∷ 0 ∷ 0 ∷ 254 ∷ []))
+unfolding asked
+last-root = refl
+
+no-root : profile-of (2 ∷ 1 ∷ 5 ∷ 1 ∷ 2 ∷ 0 ∷ 0 ∷ 255 ∷ []) ≡ Refused FirstRoot
+unfolding asked
+no-root = refl
+
+short-no-root : profile-of (2 ∷ 1 ∷ 4 ∷ 1 ∷ 2 ∷ 0 ∷ 0 ∷ 255 ∷ []) ≡ Refused Length
+unfolding asked
+short-no-root = refl
+
 -- the data size of a block of 2040 symbols
 size : data-size (read (8 ∷ 3 ∷ 255 ∷ 14 ∷ 16 ∷ 18 ∷ 24 ∷ [])) ≡ 1784
 size = refl
@@ -56,17 +70,17 @@ size = refl
 abbrev numbers : Caller → List ℕ
 numbers c = map (λ q. number-of (q .refusal)) (questions-of c)
 
-encoder-asks : numbers Encoder ≡ 1 ∷ 2 ∷ 3 ∷ 4 ∷ 15 ∷ 5 ∷ 6 ∷ 7 ∷ []
+encoder-asks : numbers Encoder ≡ 1 ∷ 2 ∷ 3 ∷ 4 ∷ 15 ∷ 5 ∷ 14 ∷ 6 ∷ 7 ∷ []
 encoder-asks = refl
 
-decoder-asks : numbers Decoder ≡ 1 ∷ 2 ∷ 3 ∷ 4 ∷ 5 ∷ 6 ∷ 7 ∷ []
+decoder-asks : numbers Decoder ≡ 1 ∷ 2 ∷ 3 ∷ 4 ∷ 5 ∷ 14 ∷ 6 ∷ 7 ∷ []
 decoder-asks = refl
 
-fetch-asks : numbers Fetch ≡ 1 ∷ 2 ∷ 3 ∷ 4 ∷ 5 ∷ 6 ∷ 10 ∷ []
+fetch-asks : numbers Fetch ≡ 1 ∷ 2 ∷ 3 ∷ 4 ∷ 5 ∷ 14 ∷ 6 ∷ 10 ∷ []
 fetch-asks = refl
 
-extract-asks : numbers Extract ≡ 1 ∷ 2 ∷ 3 ∷ 4 ∷ 5 ∷ 6 ∷ 7 ∷ []
+extract-asks : numbers Extract ≡ 1 ∷ 2 ∷ 3 ∷ 4 ∷ 5 ∷ 14 ∷ 6 ∷ 7 ∷ []
 extract-asks = refl
 
-card-asks : numbers Card ≡ 1 ∷ 2 ∷ 3 ∷ 4 ∷ 5 ∷ []
+card-asks : numbers Card ≡ 1 ∷ 2 ∷ 3 ∷ 4 ∷ 5 ∷ 14 ∷ []
 card-asks = refl

@@ -1,6 +1,6 @@
 -- What an accepted profile is, as propositions, and the laws of its capabilities and sizes.
 --
---   Valid p    the profile p passes questions 2 to 5
+--   Valid p    the profile p passes questions 2 to 5, and 14
 --   Rising p   t0 < t1 < .. < tv
 --
 -- Proved: a profile that is admitted is valid, and the sizes are right (writing-passed, reading-passed,
@@ -24,7 +24,8 @@ use Rattle.profile.specs.declared.Parsed.the-variants.{Accepted}
 use Rattle.profile.specs.declared.questions.Caller.{Caller}
 use Rattle.profile.specs.declared.questions.Caller.the-variants.{Encoder, Decoder, Extract, Card}
 use Rattle.profile.specs.declared.questions.Lent.{Lent}
-use Rattle.profile.specs.Definition.{capability, last, checks, capability-sum, block-size, data-size, data-start}
+use Rattle.profile.specs.Definition.{capability, first-root, last, checks, capability-sum}
+use Rattle.profile.specs.Definition.{block-size, data-size, data-start}
 use Rattle.profile.specs.Questions.{good-step, good-capabilities, good-rise, good-rising, asked, read, lent}
 use Rattle.profile.specs.Questions.{admitted, profile-of, writing, reading-of, extracting}
 use Rattle.profile.specs.QuestionsLaws.{Common, Own, asked-yes, admitted-also, admitted-profile, read-length}
@@ -37,6 +38,7 @@ pub record Valid (p : Profile) : Type 0 where
   pub ordered : (r : ℕ) → r < p .nested → capability p r ≤ capability p (suc r)
   pub most : last p ≤ 24
   pub length : (2 * last p < p .length) × (p .length ≤ 255)
+  pub root : first-root p ≤ 254
 
 -- ---- from the questions
 
@@ -89,6 +91,7 @@ common-valid s p common small =
       ordered = in-order p v good;
       most = leb-true (last p) 24 (parts p good .4);
       length = (ltb-true _ _ (common .length-above), small);
+      root = leb-true _ _ (common .root-below);
     }
 
 pub asked-valid : (c : Caller) (l : Lent) (p q : Profile) → asked c l p ≡ Accepted q → p .length ≤ 255 → Valid q

@@ -20,7 +20,7 @@ pub const POSITIONS: usize = 255;
 // The most symbols of a block.
 pub const SYMBOLS: usize = SUBWORDS * POSITIONS;
 
-// m subwords, v nested words, n symbols a subword, and the capabilities t0 to t3.
+// m subwords, v nested words, n symbols a subword, the capabilities t0 to t3, and f: the first root is α^f.
 pub struct Profile {
     pub subwords: u8,
     pub nested: u8,
@@ -29,6 +29,7 @@ pub struct Profile {
     pub t1: u8,
     pub t2: u8,
     pub t3: u8,
+    pub first_root: u8,
 }
 
 // The refusals, each after the question that said no.
@@ -39,6 +40,7 @@ pub enum Refusal {
     Capabilities,
     EqualCapabilities,
     Length,
+    FirstRoot,
     InputSize,
     OutputSize,
     // Staged decoding ended after this stage, with subwords left unsettled.
@@ -69,6 +71,7 @@ pub fn number(r: Refusal) -> u8
         Refusal::Capabilities => 4,
         Refusal::EqualCapabilities => 15,
         Refusal::Length => 5,
+        Refusal::FirstRoot => 14,
         Refusal::InputSize => 6,
         Refusal::OutputSize => 7,
         Refusal::Unsettled(_) => 8,

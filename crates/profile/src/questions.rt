@@ -7,8 +7,8 @@ ghost use lib.ListN.{getD};
 ghost use Rattle.profile.specs.Definition.{last as Last};
 ghost use Rattle.profile.specs.Questions.{put, read as Read, encodes as Encodes, decodes as Decodes};
 ghost use Rattle.profile.specs.Questions.{fetches as Fetches, extracts as Extracts, good-subwords, good-nested};
-ghost use Rattle.profile.specs.Questions.{good-capabilities, good-rising, good-length, asked, admitted};
-ghost use Rattle.profile.specs.Questions.{factory as Factory};
+ghost use Rattle.profile.specs.Questions.{good-capabilities, good-rising, good-length, good-root};
+ghost use Rattle.profile.specs.Questions.{asked, admitted, factory as Factory};
 use crate::Parsed;
 use crate::Profile;
 use crate::Refusal;
@@ -155,6 +155,13 @@ fn length(p: Profile) -> bool
     2 * (last(p) as u16) < p.length as u16
 }
 
+// Whether f is at most 254: α^255 is α^0, so that 255 would say the same as 0.
+fn root(p: Profile) -> bool
+    ensures { λ b. ⌜ b ≡ good-root p ⌝ }
+{
+    p.first_root <= 254
+}
+
 // Takes one answer: a question that is asked, and not answered by yes, refuses the profile.
 fn answered(p: Profile, asks: bool, good: bool, q: Refusal) -> Parsed
     ensures { λ r. ⌜ r ≡ put asks good q (Parsed.Accepted p) ⌝ }
@@ -190,12 +197,13 @@ pub fn judge(caller: Caller, l: Lent, p: Profile) -> Parsed
     let payload = p.data_size();
     let bytes = l.profile;
     let a = Parsed::Accepted(p);
-    let a = ask(a, true, (bytes == 0) | (bytes == 7), Refusal::ProfileSize);
+    let a = ask(a, true, (bytes == 0) | (bytes == 7) | (bytes == 8), Refusal::ProfileSize);
     let a = ask(a, true, subwords(p), Refusal::Subwords);
     let a = ask(a, true, nested(p), Refusal::Nested);
     let a = ask(a, true, capabilities(p), Refusal::Capabilities);
     let a = ask(a, e, rising(p), Refusal::EqualCapabilities);
     let a = ask(a, true, length(p), Refusal::Length);
+    let a = ask(a, true, root(p), Refusal::FirstRoot);
     let a = ask(a, e, l.input == payload, Refusal::InputSize);
     let a = ask(a, d | f | x, l.input == size, Refusal::InputSize);
     let a = ask(a, e | d, l.output == size, Refusal::OutputSize);
@@ -203,14 +211,14 @@ pub fn judge(caller: Caller, l: Lent, p: Profile) -> Parsed
     ask(a, f, l.subword < p.subwords as usize, Refusal::Subword)
 }
 
-// Gives byte i, 0 where there is none.
-fn byte(bytes: &[u8], i: usize) -> u8
-    ensures { λ b. ⌜ b ≡ getD (now (bytes .entry)) i 0 ⌝ }
+// Gives byte i, or `missing` where there is none.
+fn byte(bytes: &[u8], i: usize, missing: u8) -> u8
+    ensures { λ b. ⌜ b ≡ getD (now (bytes .entry)) i missing ⌝ }
 {
     if i < bytes.len() {
         return bytes[i];
     }
-    0
+    missing
 }
 
 // The profile that no bytes stand for: that of the cards which leave it out.
@@ -225,10 +233,11 @@ pub fn factory() -> Profile
         t1: 16,
         t2: 18,
         t3: 24,
+        first_root: 1,
     }
 }
 
-// Reads the bytes of a profile.
+// Reads the bytes of a profile. Without an eighth byte the first root is α.
 fn read(bytes: &[u8]) -> Profile
     ensures { λ p. ⌜ p ≡ Read (now (bytes .entry)) ⌝ }
 {
@@ -236,13 +245,14 @@ fn read(bytes: &[u8]) -> Profile
         return factory();
     }
     Profile {
-        subwords: byte(bytes, 0),
-        nested: byte(bytes, 1),
-        length: byte(bytes, 2),
-        t0: byte(bytes, 3),
-        t1: byte(bytes, 4),
-        t2: byte(bytes, 5),
-        t3: byte(bytes, 6),
+        subwords: byte(bytes, 0, 0),
+        nested: byte(bytes, 1, 0),
+        length: byte(bytes, 2, 0),
+        t0: byte(bytes, 3, 0),
+        t1: byte(bytes, 4, 0),
+        t2: byte(bytes, 5, 0),
+        t3: byte(bytes, 6, 0),
+        first_root: byte(bytes, 7, 1),
     }
 }
 

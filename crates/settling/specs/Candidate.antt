@@ -151,15 +151,15 @@ module _ (r n k : ℕ) (s Λ e : Series) (hn : n ≤ 255) (scaled : Multiple Λ 
 
 pub settle-candidate : (t n k m : ℕ) (s Λ : Series) → n ≤ 255 → Multiple Λ (measure s (2 * t) .Λ)
     → length s (2 * t) < k → length s (2 * t) ≤ m → m ≤ 2 * t
-    → settle t n s
-    ≡ ite (explains? t n s (candidate k Λ (cut m (Λ ⊠ s)))) (some (word n (candidate k Λ (cut m (Λ ⊠ s))))) none
+    → settle 1 t n s
+    ≡ ite (explains? 1 t n s (candidate k Λ (cut m (Λ ⊠ s)))) (some (word n (candidate k Λ (cut m (Λ ⊠ s))))) none
 settle-candidate t n k m s Λ hn scaled enough l h =
-    settle-test t n s _ hn (λ e x. candidate-is (2 * t) n k s Λ e hn scaled enough (explained t n s e hn x) m l h)
+    settle-test 1 t n s _ hn (λ e x. candidate-is (2 * t) n k s Λ e hn scaled enough (explained t n s e hn x) m l h)
 
 pub settle-roots : (t n k : ℕ) (s Λ : Series) → n ≤ 255 → Multiple Λ (measure s (2 * t) .Λ) → length s (2 * t) < k
-    → weight n (hits k Λ) ≢ length s (2 * t) → settle t n s ≡ none
+    → weight n (hits k Λ) ≢ length s (2 * t) → settle 1 t n s ≡ none
 settle-roots t n k s Λ hn scaled enough h =
-    settle-never t n s (λ e x. h (roots-are (2 * t) n k s Λ e hn scaled enough (explained t n s e hn x)))
+    settle-never 1 t n s (λ e x. h (roots-are (2 * t) n k s Λ e hn scaled enough (explained t n s e hn x)))
 
-pub settle-long : (t n : ℕ) (s : Series) → n ≤ 255 → t < length s (2 * t) → settle t n s ≡ none
-settle-long t n s hn h = settle-never t n s (λ e x. omega (arith, explained t n s e hn x .length-is, x .within))
+pub settle-long : (t n : ℕ) (s : Series) → n ≤ 255 → t < length s (2 * t) → settle 1 t n s ≡ none
+settle-long t n s hn h = settle-never 1 t n s (λ e x. omega (arith, explained t n s e hn x .length-is, x .within))

@@ -1,4 +1,5 @@
--- Locator and evaluator of a pattern e, read below n: the polynomials that its syndromes make known.
+-- Locator and evaluator of a pattern e, read below n: the polynomials that its syndromes make known. The first root is
+-- α here; `Twist` leads from it to any other.
 --
 --   X p               α^p, the location of position p
 --   W p               its inverse
@@ -19,7 +20,7 @@ use native.Mathlib.Nat.{mul-comm}
 use native.Mathlib.Omega.{arith}
 use native.Mathlib.Decide.{ℕ-discrete}
 use Rattle.field.specs.Field.{F, 𝟎, 𝟏, α, _⊕_, _⊙_, _≟_, ⊕-self, ⊕-equal, ⊙-assoc, ⊙-left-comm, ⊙-one, ⊙-zero, zero-⊙}
-use Rattle.field.specs.Field.{⊙-ring, ⊙-factor, ⊙-nonzero, one≢zero, inv, mul-inv, inv-unique, pow, pow-zero, pow-one}
+use Rattle.field.specs.Field.{⊙-ring, ⊙-factor, ⊙-nonzero, one≢zero, inv, mul-inv, inv-unique, inv-nonzero, pow, pow-zero, pow-one}
 use Rattle.field.specs.Field.{pow-add, pow-mul, pow-⊙, power-255, power-inj, power-nonzero}
 use Rattle.series.specs.Series.{Series, O, K, _⊞_, _⊠_, ⊠-ring, ⊞-lc, at-zero, O-at, K-at0, ⊞-at, ⊠-at0, K-⊠-at, ⊠-zero}
 use Rattle.series.specs.Degree.{below, below-O, below-K, below-⊞, below-K-⊠}
@@ -31,11 +32,11 @@ use Rattle.code.specs.Systematic.{syndrome-is}
 
 -- ---- the roots of the code: only these two proofs open `root`
 
-root-next : (j : ℕ) → root j ≡ root 0 ⊙ pow α j
+root-next : (j : ℕ) → root 1 j ≡ root 1 0 ⊙ pow α j
 unfolding root
-root-next j = let e : j + 1 ≡ 0 + 1 + j = omega arith in ap (pow α) e ∙ pow-add α (0 + 1) j
+root-next j = let e : 1 + j ≡ 1 + 0 + j = omega arith in ap (pow α) e ∙ pow-add α (1 + 0) j
 
-root-first : root 0 ≡ α
+root-first : root 1 0 ≡ α
 unfolding root
 root-first = pow-one α
 
@@ -48,11 +49,15 @@ unfoldable pub W : ℕ → F
 W p = inv (X p)
 
 unfoldable pub lead : ℕ → F
-lead p = pow (root 0) p
+lead p = pow (root 1 0) p
 
 pub X-W : (p : ℕ) → X p ⊙ W p ≡ 𝟏
 unfolding W
 X-W p = mul-inv (X p) (power-nonzero p)
+
+pub W-nonzero : (p : ℕ) → W p ≢ 𝟎
+unfolding W
+W-nonzero p = inv-nonzero (X p) (power-nonzero p)
 
 -- as a power of α
 pub W-is : (p : ℕ) → p ≤ 255 → W p ≡ pow α (255 - p)
@@ -147,25 +152,25 @@ below-evaluator e = along e (λ n. below (weight n e) (evaluator n e))
 
 -- ---- the key equation
 
-pub root-power : (j p : ℕ) → pow (root j) p ≡ lead p ⊙ pow (X p) j
+pub root-power : (j p : ℕ) → pow (root 1 j) p ≡ lead p ⊙ pow (X p) j
 unfolding lead
 root-power j p =
     ap (λ x. pow x p) (root-next j)
-    ∙ pow-⊙ (root 0) (pow α j) p
-    ∙ ap (λ x. pow (root 0) p ⊙ x) (sym (pow-mul α j p) ∙ ap (pow α) (mul-comm j p) ∙ pow-mul α p j)
+    ∙ pow-⊙ (root 1 0) (pow α j) p
+    ∙ ap (λ x. pow (root 1 0) p ⊙ x) (sym (pow-mul α j p) ∙ ap (pow α) (mul-comm j p) ∙ pow-mul α p j)
 
-syndrome-none : (e : Series) → syndrome 0 e ≡ O
-syndrome-none e = fun-ext (λ j. syndrome-is 0 e j ∙ value-none e (root j) ∙ sym (O-at j))
+syndrome-none : (e : Series) → syndrome 1 0 e ≡ O
+syndrome-none e = fun-ext (λ j. syndrome-is 1 0 e j ∙ value-none e (root 1 j) ∙ sym (O-at j))
 
-syndrome-skip : (n : ℕ) (e : Series) → e n ≡ 𝟎 → syndrome (suc n) e ≡ syndrome n e
-syndrome-skip n e z = fun-ext (λ j. rw (syndrome-is (suc n) e j, value-last, syndrome-is n e j, z) (simp ⊙-ring))
+syndrome-skip : (n : ℕ) (e : Series) → e n ≡ 𝟎 → syndrome 1 (suc n) e ≡ syndrome 1 n e
+syndrome-skip n e z = fun-ext (λ j. rw (syndrome-is 1 (suc n) e j, value-last, syndrome-is 1 n e j, z) (simp ⊙-ring))
 
-syndrome-take : (n : ℕ) (e : Series) → syndrome (suc n) e ≡ syndrome n e ⊞ K (e n ⊙ lead n) ⊠ geo (X n)
+syndrome-take : (n : ℕ) (e : Series) → syndrome 1 (suc n) e ≡ syndrome 1 n e ⊞ K (e n ⊙ lead n) ⊠ geo (X n)
 syndrome-take n e = fun-ext (λ j.
-    rw (syndrome-is (suc n) e j, value-last, root-power j n, ⊞-at, K-⊠-at, syndrome-is n e j) (simp ⊙-ring))
+    rw (syndrome-is 1 (suc n) e j, value-last, root-power j n, ⊞-at, K-⊠-at, syndrome-is 1 n e j) (simp ⊙-ring))
 
-pub key : (e : Series) (n : ℕ) → locator n e ⊠ syndrome n e ≡ evaluator n e
-key e = along e (λ n. locator n e ⊠ syndrome n e ≡ evaluator n e)
+pub key : (e : Series) (n : ℕ) → locator n e ⊠ syndrome 1 n e ≡ evaluator n e
+key e = along e (λ n. locator n e ⊠ syndrome 1 n e ≡ evaluator n e)
     (rw (syndrome-none, evaluator-none) (⊠-zero _))
     (λ n z ih. rw (locator-skip n e z, syndrome-skip n e z, evaluator-skip n e z) ih)
     (λ n z ih. rw (locator-take n e z, syndrome-take n e, evaluator-take n e z)

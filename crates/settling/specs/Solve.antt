@@ -32,7 +32,7 @@ K-cancel : (a : F) (f g : Series) → a ≢ 𝟎 → K a ⊠ f ≡ K a ⊠ g →
 K-cancel a f g h e = fun-ext (λ i. ⊙-cancel a h (sym (K-⊠-at a f i) ∙ ap (λ t. t i) e ∙ K-⊠-at a g i))
 
 module _ (n r : ℕ) (S e : Series) (hn : n ≤ 255) (few : 2 * weight n e ≤ r)
-    (agrees : (j : ℕ) → j < r → syndrome n e j ≡ S j) where
+    (agrees : (j : ℕ) → j < r → syndrome 1 n e j ≡ S j) where
   abbrev m : Plain.State
   m = measure S r
 
@@ -48,7 +48,7 @@ module _ (n r : ℕ) (S e : Series) (hn : n ≤ 255) (few : 2 * weight n e ≤ r
     below-σ = below-locator e n;
     below-ω = below-evaluator e n;
     agree =
-        λ i l. ⊠-agree (locator n e) S (syndrome n e) i (λ j h. sym (agrees j (omega arith))) ∙ ap (λ f. f i) (key e n);
+        λ i l. ⊠-agree (locator n e) S (syndrome 1 n e) i (λ j h. sym (agrees j (omega arith))) ∙ ap (λ f. f i) (key e n);
   }
 
   least : L ≤ weight n e
@@ -103,5 +103,5 @@ module _ (n r : ℕ) (S e : Series) (hn : n ≤ 255) (few : 2 * weight n e ≤ r
         length-is = whole;
       }
 
-pub explained : (t n : ℕ) (s e : Series) → n ≤ 255 → Explains t n s e → Found s (2 * t) n e
+pub explained : (t n : ℕ) (s e : Series) → n ≤ 255 → Explains 1 t n s e → Found s (2 * t) n e
 explained t n s e hn x = found n (2 * t) s e hn (omega (arith, x .within)) (x .syndromes)

@@ -32,7 +32,7 @@ use Rattle.series.specs.Interpolation.{solution}
 use Rattle.series.specs.Decide.{holds}
 use Rattle.series.specs.Word.{entry, word, weight}
 use Rattle.profile.specs.declared.Profile.{Profile}
-use Rattle.profile.specs.Definition.{capability}
+use Rattle.profile.specs.Definition.{capability, first-root}
 use Rattle.code.specs.Word.{syndrome}
 use Rattle.code.specs.Definition.{subword, nested}
 use Rattle.code.specs.Encoding.{codeword?}
@@ -111,7 +111,7 @@ add n i e s = s ⊞ zpow (i * n) ⊠ e
 
 -- FORMAT 6.3: the pattern that explains the strip settles it; if there is none, the strip fails this stage
 unfoldable pub found : Profile → ℕ → Progress → ℕ → Option (List F)
-found p r g i = cond (open? g i) (settle (capability p r) (p .length) (g .row i)) none
+found p r g i = cond (open? g i) (settle (first-root p) (capability p r) (p .length) (g .row i)) none
 
 abbrev pub correct : Profile → ℕ → ℕ → Option (List F) → Progress → Progress
 correct p r i none g = g
@@ -136,7 +136,7 @@ unfoldable pub node : Profile → Progress → ℕ → F
 node p g w = pow α (nth (p .subwords) (open? g) w)
 
 unfoldable pub system : Profile → Progress → ℕ → ℕ → F
-system p g j = solution (unsettled p g) (node p g) (λ l. syndrome (p .length) (nested p (g .block) l) j)
+system p g j = solution (unsettled p g) (node p g) (λ l. syndrome (first-root p) (p .length) (nested p (g .block) l) j)
 
 -- subword i is i_w, w being how many unsettled ones stand before it
 unfoldable pub fresh : Profile → Progress → ℕ → Series

@@ -22,11 +22,11 @@ pub subword-⊞ : (n : ℕ) (s t : Series) (i q : ℕ) → subword n (s ⊞ t) i
 unfolding subword
 subword-⊞ n s t i q = ⊞-at s t _
 
-pub syndrome-sum-block : (n : ℕ) (s t : Series) (i j : ℕ)
-    → syndrome n (subword n (s ⊞ t) i) j ≡ syndrome n (subword n s i) j ⊕ syndrome n (subword n t i) j
-syndrome-sum-block n s t i j =
-    syndrome-cong n _ _ (λ q l. subword-⊞ n s t i q ∙ sym (⊞-at (subword n s i) (subword n t i) q)) j
-    ∙ syndrome-⊞ n (subword n s i) (subword n t i) j
+pub syndrome-sum-block : (f n : ℕ) (s t : Series) (i j : ℕ)
+    → syndrome f n (subword n (s ⊞ t) i) j ≡ syndrome f n (subword n s i) j ⊕ syndrome f n (subword n t i) j
+syndrome-sum-block f n s t i j =
+    syndrome-cong f n _ _ (λ q l. subword-⊞ n s t i q ∙ sym (⊞-at (subword n s i) (subword n t i) q)) j
+    ∙ syndrome-⊞ f n (subword n s i) (subword n t i) j
 
 -- ---- differences
 

@@ -15,7 +15,7 @@ use mathlib.Core.Option.{none}
 use lib.Dec.{ltb}
 use Rattle.series.specs.Series.{Series, _⊞_}
 use Rattle.profile.specs.declared.Profile.{Profile}
-use Rattle.profile.specs.Definition.{capability}
+use Rattle.profile.specs.Definition.{capability, first-root}
 use Rattle.code.specs.Word.{syndrome}
 use Rattle.code.specs.Definition.{subword, Codeword}
 use Rattle.settling.specs.Definition.{settle}
@@ -35,7 +35,7 @@ pub record Unmistaken (p : Profile) (c y : Series) : Type 0 where
   pub written : Codeword p c
   pub never : (r : ℕ) → r ≤ p .nested → Reached p c y r → (i : ℕ) → i < p .subwords
       → capability p r < differences p y c i
-      → settle (capability p r) (p .length) (syndrome (p .length) (subword (p .length) (y ⊞ c) i)) ≡ none
+      → settle (first-root p) (capability p r) (p .length) (syndrome (first-root p) (p .length) (subword (p .length) (y ⊞ c) i)) ≡ none
 
 pub record Restorable (p : Profile) (c y : Series) : Type 0 where
   pub unmistaken : Unmistaken p c y

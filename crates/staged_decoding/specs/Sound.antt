@@ -17,7 +17,7 @@ use Rattle.field.specs.Field.{F, _⊕_, ⊕-self-left}
 use Rattle.series.specs.Series.{Series, _⊞_}
 use Rattle.series.specs.Word.{entry, weight, weight-cong}
 use Rattle.profile.specs.declared.Profile.{Profile}
-use Rattle.profile.specs.Definition.{capability}
+use Rattle.profile.specs.Definition.{capability, first-root}
 use Rattle.code.specs.Definition.{subword}
 use Rattle.settling.specs.Definition.{Explains}
 use Rattle.settling.specs.Settle.{explains-cong}
@@ -33,7 +33,7 @@ use Rattle.staged_decoding.specs.Differences.{subword-⊞}
 pub record Settled (p : Profile) (y : Series) (r : ℕ) (g : Progress) (i : ℕ) (l : Line) : Type 0 where
   pub stage : ℕ
   pub passed : stage < r
-  pub explained : Explains (capability p stage) (p .length) (g .row i) (subword (p .length) (y ⊞ g .block) i)
+  pub explained : Explains (first-root p) (capability p stage) (p .length) (g .row i) (subword (p .length) (y ⊞ g .block) i)
   pub line-is : l ≡ line-of stage (weight (p .length) (subword (p .length) (y ⊞ g .block) i))
 
 abbrev pub Told : Profile → Series → ℕ → Progress → ℕ → Option Line → Type 0
@@ -54,7 +54,7 @@ module _ (p : Profile) (y : Series) where
   settled-stays r s g h i l u rows same x = record {
     stage = x .stage;
     passed = omega (arith, x .passed);
-    explained = rw rows (explains-cong (capability p (x .stage)) n (g .row i) _ _ sums (x .explained));
+    explained = rw rows (explains-cong (first-root p) (capability p (x .stage)) n (g .row i) _ _ sums (x .explained));
     line-is = x .line-is ∙ ap (line-of (x .stage)) (weight-cong n _ _ sums);
   }
     where
@@ -79,7 +79,7 @@ module _ (p : Profile) (y : Series) where
       stage = r;
       passed = omega arith;
       explained =
-          rw row-is (explains-cong (capability p r) n (g .row i) (entry w) _ sums (found-some p r g i w e .explains));
+          rw row-is (explains-cong (first-root p) (capability p r) n (g .row i) (entry w) _ sums (found-some p r g i w e .explains));
       line-is = ap (line-of r) (weight-cong n (entry w) _ sums);
     }
       where

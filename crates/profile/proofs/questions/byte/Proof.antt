@@ -17,7 +17,7 @@ returns-2 : tie.Need-returns-2
 returns-2 c =
     let given = c .before .args in
     let past : length (given .bytes .now) ≤ given .i = omega (arith, c .if1 .left) in
-    sym (List·getD-eq-default (given .bytes .now) 0 past)
+    sym (List·getD-eq-default (given .bytes .now) (given .missing) past)
 
 pub byte-spec : {M : Type 1} → statement M
 byte-spec = tie.close (tie.spec shared-slice-read-result returns returns-2)

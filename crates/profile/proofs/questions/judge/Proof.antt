@@ -58,6 +58,9 @@ length-requires c κs = search needs
 ask-requires-6 : tie.Need-ask-requires-6
 ask-requires-6 c κs = search needs
 
+root-requires : tie.Need-root-requires
+root-requires c κs = search needs
+
 ask-requires-7 : tie.Need-ask-requires-7
 ask-requires-7 c κs = search needs
 
@@ -70,15 +73,19 @@ ask-requires-9 c κs = search needs
 ask-requires-10 : tie.Need-ask-requires-10
 ask-requires-10 c κs = search needs
 
-cast-ask : tie.Need-cast-ask
-cast-ask c = search needs
-
 ask-requires-11 : tie.Need-ask-requires-11
 ask-requires-11 c κs = search needs
 
+cast-ask : tie.Need-cast-ask
+cast-ask c = search needs
+
+ask-requires-12 : tie.Need-ask-requires-12
+ask-requires-12 c κs = search needs
+
 returns : tie.Need-returns
 returns c =
-    let asked10 = c .before .before .before in
+    let asked11 = c .before .before .before in
+    let asked10 = asked11 .before .before in
     let asked9 = asked10 .before .before in
     let asked8 = asked9 .before .before in
     let asked7 = asked8 .before .before in
@@ -102,17 +109,18 @@ returns c =
     let size = block .block-size .ensures in
     let data-size = payload .data-size .ensures in
     let l = given .l in
-    next _ (c .ask11 .ensures) f refl
-    (next _ (asked10 .ask10 .ensures) x (ap (eqb (l .output)) data-size)
-    (next _ (asked9 .ask9 .ensures) (ap₂ _||_ e d) (ap (eqb (l .output)) size)
-    (next _ (asked8 .ask8 .ensures) (ap₂ _||_ (ap₂ _||_ d f) x) (ap (eqb (l .input)) size)
-    (next _ (asked7 .ask7 .ensures) e (ap (eqb (l .input)) data-size)
+    next _ (c .ask12 .ensures) f refl
+    (next _ (asked11 .ask11 .ensures) x (ap (eqb (l .output)) data-size)
+    (next _ (asked10 .ask10 .ensures) (ap₂ _||_ e d) (ap (eqb (l .output)) size)
+    (next _ (asked9 .ask9 .ensures) (ap₂ _||_ (ap₂ _||_ d f) x) (ap (eqb (l .input)) size)
+    (next _ (asked8 .ask8 .ensures) e (ap (eqb (l .input)) data-size)
+    (next _ (asked7 .ask7 .ensures) refl (asked7 .before .root .ensures)
     (next _ (asked6 .ask6 .ensures) refl (asked6 .before .length .ensures)
     (next _ (asked5 .ask5 .ensures) e (asked5 .before .rising .ensures)
     (next _ (asked4 .ask4 .ensures) refl (asked4 .before .capabilities .ensures)
     (next _ (asked3 .ask3 .ensures) refl (asked3 .before .nested .ensures)
     (next _ (asked2 .ask2 .ensures) refl (asked2 .before .subwords .ensures)
-    (asked1 .ask .ensures))))))))))
+    (asked1 .ask .ensures)))))))))))
     ∙ sym (asked-in-order (given .caller) l (given .p))
 
 pub judge-spec : {M : Type 1} → statement M
@@ -136,10 +144,12 @@ judge-spec =
     ask-requires-5
     length-requires
     ask-requires-6
+    root-requires
     ask-requires-7
     ask-requires-8
     ask-requires-9
     ask-requires-10
-    cast-ask
     ask-requires-11
+    cast-ask
+    ask-requires-12
     returns)

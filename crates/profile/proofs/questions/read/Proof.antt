@@ -34,15 +34,20 @@ byte-requires-6 c κs = search needs
 byte-requires-7 : tie.Need-byte-requires-7
 byte-requires-7 c κs = search needs
 
+byte-requires-8 : tie.Need-byte-requires-8
+byte-requires-8 c κs = search needs
+
 returns-2 : tie.Need-returns-2
 returns-2 c =
-    let three = c .before .before .before .before in
+    let four = c .before .before .before .before in
+    let three = four .before in
     let some = three .before .before .before in
     rw (
-      c .byte7 .ensures,
-      c .before .byte6 .ensures,
-      c .before .before .byte5 .ensures,
-      c .before .before .before .byte4 .ensures,
+      c .byte8 .ensures,
+      c .before .byte7 .ensures,
+      c .before .before .byte6 .ensures,
+      c .before .before .before .byte5 .ensures,
+      four .byte4 .ensures,
       three .byte3 .ensures,
       three .before .byte2 .ensures,
       three .before .before .byte .ensures,
@@ -61,4 +66,5 @@ read-spec =
     byte-requires-5
     byte-requires-6
     byte-requires-7
+    byte-requires-8
     returns-2)
