@@ -33,7 +33,7 @@ told i (Refused q) r c = refused-line i (number-of q)
 
 abbrev pub Made : Section → List ℕ → List ℕ → Type 0
 Made Size t u = Unit
-Made Bytes t u = Unit
+Made (Bytes n) t u = Unit
 Made (Count p) t u = Unit
 Made (Block p i k) t u = Tables p t u
 Made End t u = Unit
@@ -41,7 +41,7 @@ Made Over t u = Unit
 
 abbrev pub Kept : Section → List ℕ → List ℕ → Type 0
 Kept Size t u = Unit
-Kept Bytes t u = Unit
+Kept (Bytes n) t u = Unit
 Kept (Count p) t u = Unit
 Kept (Block p i k) t u = 0 < i → Tables p t u
 Kept End t u = Unit

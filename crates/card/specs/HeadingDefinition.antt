@@ -11,14 +11,15 @@ use Rattle.profile.specs.declared.Refusal.the-variants.{ProfileSize}
 use Rattle.profile.specs.declared.Parsed.{Parsed}
 use Rattle.profile.specs.declared.Parsed.the-variants.{Accepted, Refused}
 use Rattle.profile.specs.Definition.{number-of}
-use Rattle.profile.specs.Questions.{factory}
+use Rattle.profile.specs.Questions.{good-size, factory}
 use Rattle.listing.specs.Definition.{blocks-line}
 use Rattle.card.specs.declared.section.Section.the-variants.{Bytes, Count}
 use Rattle.card.specs.SectionDefinition.{from, Step, silent, refusal}
 
--- FORMAT 9.3: after a first byte of 0 the number of blocks comes next; one other than 0 and 7 gives 1
+-- FORMAT 9.3: after a first byte of 0 the number of blocks comes next; one other than 0, 7 and 8 gives 1
 abbrev pub size-step : ℕ → Step
-size-step n = cond (eqb n 0) (silent (Count factory)) (cond (eqb n 7) (silent Bytes) (refusal (number-of ProfileSize)))
+size-step n =
+    cond (eqb n 0) (silent (Count factory)) (cond (good-size n) (silent (Bytes n)) (refusal (number-of ProfileSize)))
 
 -- FORMAT 9.4: a card with a refused profile is refused by its number
 abbrev pub profile-step : Parsed → Step

@@ -11,7 +11,7 @@ use lib.Dec.{eqb, ltb}
 use lib.ListN.{getD}
 use Rattle.profile.specs.declared.Parsed.{Parsed}
 use Rattle.profile.specs.declared.Parsed.the-variants.{Accepted, Refused}
-use Rattle.profile.specs.Questions.{factory, profile-of}
+use Rattle.profile.specs.Questions.{good-size, factory, profile-of}
 use Rattle.card.specs.declared.section.Section.{Section}
 use Rattle.card.specs.declared.section.Section.the-variants.{Size, Bytes, Count, Block, End, Over}
 use Rattle.card.specs.SectionDefinition.{ends, silent, refusal}
@@ -28,13 +28,14 @@ module _ (t u : List ℕ) where
   kept-as e h = subst⁻¹ (λ s. Kept s t u) e h
 
   pub made-next : (s : Section) (y : List ℕ) → Made s t u → Kept (whole s y .next) t u
-  made-next Size y h = go (eqb (getD y 0 0) 0) (eqb (getD y 0 0) 7)
+  made-next Size y h = go (getD y 0 0) (eqb (getD y 0 0) 0) (good-size (getD y 0 0))
     where
-      go : (a b : Bool) → Kept (cond a (silent (Count factory)) (cond b (silent Bytes) (refusal 1)) .next) t u
-      go true b = tt
-      go false true = tt
-      go false false = tt
-  made-next Bytes y h = go (profile-of y)
+      go : (n : ℕ) (a b : Bool)
+          → Kept (cond a (silent (Count factory)) (cond b (silent (Bytes n)) (refusal 1)) .next) t u
+      go n true b = tt
+      go n false true = tt
+      go n false false = tt
+  made-next (Bytes n) y h = go (profile-of y)
     where
       go : (a : Parsed) → Kept (profile-step a .next) t u
       go (Accepted p) = tt

@@ -40,7 +40,7 @@ reached-open x h = record {
 -- nothing is left to be printed
 over-rest : (s : Section) (d : List ℕ) → over s ≡ true → rest s d ≡ []
 over-rest Size d v = absurd (true≢false (sym v))
-over-rest Bytes d v = absurd (true≢false (sym v))
+over-rest (Bytes n) d v = absurd (true≢false (sym v))
 over-rest (Count p) d v = absurd (true≢false (sym v))
 over-rest (Block p i k) d v = absurd (true≢false (sym v))
 over-rest End d v = absurd (true≢false (sym v))

@@ -52,7 +52,7 @@ profile-judged (Refused q) r = card-line (number-of q)
 abbrev pub profiled : ℕ → List ℕ → List ℕ
 profiled n c = section n c (λ b. profile-judged (profile-of b))
 
--- FORMAT 9.3: a first byte other than 0 and 7 gives 1, and no first byte 11
+-- FORMAT 9.3: a first byte other than 0, 7 and 8 gives 1, and no first byte 11
 abbrev pub sized : ℕ → List ℕ → List ℕ
 sized n r = cond (good-size n) (profiled n r) (card-line (number-of ProfileSize))
 

@@ -14,7 +14,7 @@ use lib.Seq.{getD-take}
 use Rattle.profile.specs.declared.Profile.{Profile}
 use Rattle.profile.specs.declared.Parsed.{Parsed}
 use Rattle.profile.specs.declared.Parsed.the-variants.{Accepted, Refused}
-use Rattle.profile.specs.Questions.{factory, profile-of}
+use Rattle.profile.specs.Questions.{good-size, factory, profile-of}
 use Rattle.card.specs.declared.section.Section.{Section}
 use Rattle.card.specs.declared.section.Section.the-variants.{Size, Bytes, Count, Block, End, Over}
 use Rattle.card.specs.SectionDefinition.{good, known, size, ends, over, left, from, Step, silent, refusal}
@@ -24,7 +24,7 @@ use Rattle.card.specs.PrintedStep.{whole, cut, step}
 
 pub some-left : (s : Section) → over s ≡ false → 0 < left s
 some-left Size h = omega arith
-some-left Bytes h = omega arith
+some-left (Bytes n) h = omega arith
 some-left (Count p) h = omega arith
 some-left (Block p i k) h = omega arith
 some-left End h = omega arith
@@ -47,11 +47,12 @@ whole-falls Size y h o = go (getD (take 1 y) 0 0)
   where
     go : (n : ℕ) → left (size-step n .next) < left Size
     go n =
-        either (eqb n 0) (silent (Count factory)) (cond (eqb n 7) (silent Bytes) (refusal 1)) (left Size) (omega arith)
-        (either (eqb n 7) (silent Bytes) (refusal 1) (left Size) (omega arith) (omega arith))
-whole-falls Bytes y h o = go (profile-of (take 7 y))
+        either (eqb n 0) (silent (Count factory)) (cond (good-size n) (silent (Bytes n)) (refusal 1)) (left Size)
+        (omega arith)
+        (either (good-size n) (silent (Bytes n)) (refusal 1) (left Size) (omega arith) (omega arith))
+whole-falls (Bytes n) y h o = go (profile-of (take n y))
   where
-    go : (a : Parsed) → left (profile-step a .next) < left Bytes
+    go : (a : Parsed) → left (profile-step a .next) < left (Bytes n)
     go (Accepted p) = omega arith
     go (Refused q) = omega arith
 whole-falls (Count p) y h o =

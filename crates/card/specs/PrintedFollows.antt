@@ -8,12 +8,12 @@
 use Prim.Native.Nat.{ℕ, zero, suc, _+_, _-_, _≤_, _<_}
 use mathlib.Core.Path.{_≡_, refl, sym, ap, ap₂, _∙_, subst⁻¹}
 use mathlib.Core.Logic.{by-cases}
-use mathlib.Core.Bool.{Bool, true, false, cond, _||_, and-eq-true-iff}
+use mathlib.Core.Bool.{Bool, true, false, cond, true≢false, and-eq-true-iff}
 use mathlib.Core.List.{List, [], _∷_, _++_, append-nil}
 use native.Mathlib.Nat.{sub-zero}
 use native.Mathlib.Decide.{decLt}
 use native.Mathlib.Omega.{arith}
-use borrow.Author.Tests.{ltb-true, ltb-false, le-ltb, eqb-true}
+use borrow.Author.Tests.{ltb-true, ltb-false, lt-ltb, le-ltb, eqb-true, eqb-false}
 use lib.Dec.{eqb, ltb}
 use lib.ListN.{length, getD, take, drop}
 use lib.Seq.{length-take-le, take-all}
@@ -21,7 +21,7 @@ use Rattle.profile.specs.declared.Profile.{Profile}
 use Rattle.profile.specs.declared.Parsed.{Parsed}
 use Rattle.profile.specs.declared.Parsed.the-variants.{Accepted, Refused}
 use Rattle.profile.specs.Definition.{number-of, block-size}
-use Rattle.profile.specs.Questions.{factory, profile-of}
+use Rattle.profile.specs.Questions.{good-size, factory, profile-of}
 use Rattle.profile.specs.QuestionsLaws.{none-accepted}
 use Rattle.listing.specs.Definition.{blocks-line, card-line}
 use Rattle.card.specs.declared.section.Section.{Section}
@@ -57,16 +57,18 @@ none-profiled d =
     section-whole 0 d (λ b. profile-judged (profile-of b)) (omega arith) ∙ ap (λ a. profile-judged a d) none-accepted
 
 size-follows : (n : ℕ) (d : List ℕ) → Follows (size-step n) (sized n d) d
-size-follows n d = go (eqb n 0) refl
+size-follows n d = go (eqb n 0) (good-size n) refl refl
   where
-    same : (k : ℕ) → eqb n k ≡ true → profiled n d ≡ profiled k d
-    same k e = ap (λ (k : ℕ). profiled k d) (eqb-true n k e)
-
-    go : (b : Bool) → eqb n 0 ≡ b
-        → Follows (cond b (silent (Count factory)) (cond (eqb n 7) (silent Bytes) (refusal 1)))
-        (cond (b || eqb n 7) (profiled n d) (card-line 1)) d
-    go true e = record { good = profile-accepts [] factory none-accepted; says = same 0 e ∙ none-profiled d }
-    go false _ = pick (eqb n 7) (λ e. record { good = refl; says = same 7 e }) (λ _. refused 1 d)
+    go : (b g : Bool) → eqb n 0 ≡ b → good-size n ≡ g
+        → Follows (cond b (silent (Count factory)) (cond g (silent (Bytes n)) (refusal 1)))
+        (cond g (profiled n d) (card-line 1)) d
+    go true true e h = record {
+      good = profile-accepts [] factory none-accepted;
+      says = ap (λ (k : ℕ). profiled k d) (eqb-true n 0 e) ∙ none-profiled d;
+    }
+    go true false e h = absurd (true≢false (sym (ap good-size (eqb-true n 0 e)) ∙ h))
+    go false true e h = record { good = rw (lt-ltb 0 n (omega (arith, eqb-false n 0 e)), h); says = refl }
+    go false false e h = refused 1 d
 
 profile-follows : (y d : List ℕ) → Follows (profile-step (profile-of y)) (profile-judged (profile-of y) d) d
 profile-follows y d = go (profile-of y) refl
@@ -135,7 +137,8 @@ front : (s : Section) (c : List ℕ) → good s ≡ true
     → Follows (cond (ltb (length c) (size s)) (cut s) (whole s (take (size s) c))) (after s c) (drop (size s) c)
 front Size c g =
     pick (ltb (length c) 1) (λ _. refused 11 (drop 1 c)) (λ _. size-follows (getD (take 1 c) 0 0) (drop 1 c))
-front Bytes c g = pick (ltb (length c) 7) (λ _. refused 11 (drop 7 c)) (λ _. profile-follows (take 7 c) (drop 7 c))
+front (Bytes n) c g =
+    pick (ltb (length c) n) (λ _. refused 11 (drop n c)) (λ _. profile-follows (take n c) (drop n c))
 front (Count p) c g =
     pick (ltb (length c) 2) (λ _. refused 11 (drop 2 c)) (λ _. count-follows p (count-of (take 2 c)) (drop 2 c) g)
 front (Block p i k) c g =
@@ -168,7 +171,7 @@ cut-good s = go (ends s)
 
 pub whole-good : (s : Section) (y : List ℕ) → good s ≡ true → good (whole s y .next) ≡ true
 whole-good Size y g = size-follows (getD y 0 0) [] .good
-whole-good Bytes y g = profile-follows y [] .good
+whole-good (Bytes n) y g = profile-follows y [] .good
 whole-good (Count p) y g = count-follows p (count-of y) [] g .good
 whole-good (Block p i k) y g = block-follows p i k y [] (and-eq-true-iff (ltb i k) _ .0 g .1) .good
 whole-good End y g = refl

@@ -26,7 +26,7 @@ use Rattle.card.specs.PrintedDefinition.{end, blocks, count-of, counted,
 
 abbrev pub whole : Section → List ℕ → Step
 whole Size y = size-step (getD y 0 0)
-whole Bytes y = profile-step (profile-of y)
+whole (Bytes n) y = profile-step (profile-of y)
 whole (Count p) y = count-step p (count-of y)
 whole (Block p i k) y = record { text = block-line p i y; next = from p (i + 1) k }
 whole End y = refusal 12
@@ -40,7 +40,7 @@ step s y = cond (ltb (length y) (size s)) (cut s) (whole s (take (size s) y))
 
 abbrev pub after : Section → List ℕ → List ℕ
 after Size c = printed c
-after Bytes c = profiled 7 c
+after (Bytes n) c = profiled n c
 after (Count p) c = counted p c
 after (Block p i k) c = blocks p (k - i) i c
 after End c = end c

@@ -1,8 +1,8 @@
 -- The sections of a card, as they are judged.
 --
---   accepts p          the profile p passes questions 2 to 5
---   good s             a card can lead to the section s: its profile was accepted, and the number of its block is below
---                      the number of blocks
+--   accepts p          the profile p passes questions 2 to 5, and 14
+--   good s             a card can lead to the section s: its profile may have so many bytes, and some; it was accepted;
+--                      and the number of its block is below the number of blocks
 --   known s            s, or Over if no card leads to it
 --   size s             how many bytes the section s has
 --   wanted s           how many bytes come next: none if no card leads to s
@@ -25,7 +25,7 @@ use Rattle.profile.specs.declared.Parsed.the-variants.{Accepted, Refused}
 use Rattle.profile.specs.declared.questions.Caller.the-variants.{Card}
 use Rattle.profile.specs.declared.questions.Lent.{Lent}
 use Rattle.profile.specs.Definition.{block-size}
-use Rattle.profile.specs.Questions.{asked}
+use Rattle.profile.specs.Questions.{good-size, asked}
 use Rattle.listing.specs.Definition.{card-line, Printed}
 use Rattle.card.specs.declared.section.Section.{Section}
 use Rattle.card.specs.declared.section.Section.the-variants.{Size, Bytes, Count, Block, End, Over}
@@ -35,7 +35,7 @@ abbrev pub passes : Parsed → Bool
 passes (Accepted p) = true
 passes (Refused q) = false
 
--- a profile of seven bytes, and nothing besides
+-- a profile whose length is right, and nothing besides
 abbrev pub alone : Lent
 alone = record { profile = 7; input = 0; output = 0; subword = 0 }
 
@@ -44,7 +44,7 @@ accepts p = passes (asked Card alone p)
 
 abbrev pub good : Section → Bool
 good Size = true
-good Bytes = true
+good (Bytes n) = ltb 0 n && good-size n
 good (Count p) = accepts p
 good (Block p i k) = ltb i k && accepts p
 good End = true
@@ -55,7 +55,7 @@ known s = cond (good s) s Over
 
 abbrev pub size : Section → ℕ
 size Size = 1
-size Bytes = 7
+size (Bytes n) = n
 size (Count p) = 2
 size (Block p i k) = block-size p
 size End = 1
@@ -66,7 +66,7 @@ wanted s = size (known s)
 
 abbrev pub kinds : Section → ℕ
 kinds Size = 5
-kinds Bytes = 4
+kinds (Bytes n) = 4
 kinds (Count p) = 3
 kinds (Block p i k) = 2
 kinds End = 1
@@ -80,7 +80,7 @@ over s = eqb (kinds s) 0
 
 abbrev pub left : Section → ℕ
 left Size = 65540
-left Bytes = 65539
+left (Bytes n) = 65539
 left (Count p) = 65538
 left (Block p i k) = suc (suc (k - i))
 left End = 1

@@ -53,6 +53,7 @@ profile-accepts b q e =
       nested = common .nested;
       capabilities = common .capabilities;
       length-above = common .length-above;
+      root-below = common .root-below;
     }) (card-own alone q))
 
 -- a block section has the bytes of a block, few enough

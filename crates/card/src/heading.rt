@@ -33,11 +33,11 @@ pub fn judge_size(n: u8, line: &mut [u8; LINE]) -> Judged
             size: 0,
         };
     }
-    if n != 7 {
+    if !profile::questions::size(n as usize) {
         return refuse(profile::number(Refusal::ProfileSize), line);
     }
     Judged {
-        next: Section::Bytes,
+        next: Section::Bytes(n),
         size: 0,
     }
 }

@@ -71,7 +71,7 @@ fn whole(
 {
     match s {
         Section::Size => crate::heading::judge_size(bytes[0], line),
-        Section::Bytes => crate::heading::judge_bytes(bytes, line),
+        Section::Bytes(_) => crate::heading::judge_bytes(bytes, line),
         Section::Count(p) => crate::heading::judge_count(p, bytes[0], bytes[1], line),
         Section::Block(p, i, k) => judge_block(p, i, k, kept, t, u, bytes, line),
         Section::End => crate::heading::refuse(BEYOND, line),

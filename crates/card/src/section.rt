@@ -4,6 +4,7 @@ ghost use Prim.Native.Nat.{_≤_};
 ghost use mathlib.Core.Path.{_≡_};
 ghost use mathlib.Core.Bool.{true, _&&_};
 ghost use lib.Dec.{ltb};
+ghost use Rattle.profile.specs.Questions.{good-size};
 ghost use Rattle.card.specs.SectionDefinition.{accepts, good as Good, known as Known, size as SizeOf};
 ghost use Rattle.card.specs.SectionDefinition.{wanted as Wanted, kinds as Kinds, ends, over, from};
 use profile::Parsed;
@@ -18,8 +19,8 @@ pub const SECTION: usize = profile::SYMBOLS;
 pub enum Section {
     // how many bytes the profile has
     Size,
-    // the profile
-    Bytes,
+    // the profile, of so many bytes
+    Bytes(u8),
     // how many blocks there are
     Count(Profile),
     // the block of the first number, out of as many as the second says
@@ -34,6 +35,13 @@ pub enum Section {
 pub struct Judged {
     pub next: Section,
     pub size: usize,
+}
+
+// Whether a section of n bytes can be a profile. One of no bytes is left out, and has none.
+fn counted(n: u8) -> bool
+    ensures { λ b. ⌜ b ≡ (ltb 0 n && good-size n) ⌝ }
+{
+    (0 < n) & profile::questions::size(n as usize)
 }
 
 // Whether the profile passes its questions.
@@ -68,7 +76,7 @@ fn good(s: Section) -> bool
 {
     match s {
         Section::Size => true,
-        Section::Bytes => true,
+        Section::Bytes(n) => counted(n),
         Section::Count(p) => accepted(p),
         Section::Block(p, i, k) => numbered(p, i, k),
         Section::End => true,
@@ -93,7 +101,7 @@ pub fn size(s: Section) -> usize
 {
     match s {
         Section::Size => 1,
-        Section::Bytes => 7,
+        Section::Bytes(n) => n as usize,
         Section::Count(_) => 2,
         Section::Block(p, _, _) => p.block_size(),
         Section::End => 1,
@@ -115,7 +123,7 @@ fn kinds(s: Section) -> u8
 {
     match s {
         Section::Size => 5,
-        Section::Bytes => 4,
+        Section::Bytes(_) => 4,
         Section::Count(_) => 3,
         Section::Block(_, _, _) => 2,
         Section::End => 1,

@@ -15,9 +15,8 @@ use Rattle.series.specs.Sum.{sum, sum-cong}
 use Rattle.series.specs.Series.{Series}
 use Rattle.profile.specs.declared.Profile.{Profile}
 use Rattle.profile.specs.Definition.{first-root, checks, block-size}
-use Rattle.code.specs.Word.{syndrome}
 use Rattle.code.specs.Systematic.{syndrome-cong, syndrome-sum}
-use Rattle.code.specs.Definition.{subword, nested, Codeword, Carries, Encodes}
+use Rattle.code.specs.Definition.{syndrome-of, subword, nested, Codeword, Carries, Encodes}
 
 pub subword-at : (n : ℕ) (s : Series) (i q : ℕ) → subword n s i q ≡ s (i * n + q)
 unfolding subword
@@ -59,8 +58,10 @@ module _ (p : Profile) (s t : Series) (same : Agree p 0 s t) where
 
   pub codeword-cong : Codeword p s → Codeword p t
   codeword-cong c = record {
-    subwords = λ i h j l. sym (syndrome-cong (first-root p) (p .length) _ _ (same i (omega arith) h) j) ∙ c .subwords i h j l;
-    nested-words = λ l h j k. sym (syndrome-cong (first-root p) (p .length) _ _ (nested-cong l) j) ∙ c .nested-words l h j k;
+    subwords = λ i h j l.
+        sym (syndrome-cong (first-root p) (p .length) _ _ (same i (omega arith) h) j) ∙ c .subwords i h j l;
+    nested-words = λ l h j k.
+        sym (syndrome-cong (first-root p) (p .length) _ _ (nested-cong l) j) ∙ c .nested-words l h j k;
   }
 
   pub carries-cong : (d : Series) → Carries p d s → Carries p d t
@@ -72,7 +73,7 @@ module _ (p : Profile) (s t : Series) (same : Agree p 0 s t) where
 -- ---- syndromes of nested words
 
 pub syndrome-nested : (p : Profile) (s : Series) (l j : ℕ)
-    → syndrome (first-root p) (p .length) (nested p s l) j
-    ≡ sum (p .subwords) (λ i. pow α (i * l) ⊙ syndrome (first-root p) (p .length) (subword (p .length) s i) j)
+    → syndrome-of p (nested p s l) j
+    ≡ sum (p .subwords) (λ i. pow α (i * l) ⊙ syndrome-of p (subword (p .length) s i) j)
 unfolding nested
 syndrome-nested p s l j = syndrome-sum (first-root p) (p .subwords) (p .length) _ (subword (p .length) s) j

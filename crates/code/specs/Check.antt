@@ -17,15 +17,14 @@ use Rattle.field.specs.Field.{𝟎}
 use Rattle.series.specs.Series.{Series, O}
 use Rattle.series.specs.Shift.{cut}
 use Rattle.profile.specs.declared.Profile.{Profile}
-use Rattle.profile.specs.Definition.{first-root, checks}
+use Rattle.profile.specs.Definition.{checks}
 use Rattle.profile.specs.Valid.{Valid, checks-is, checks-high}
-use Rattle.code.specs.Word.{syndrome, InCode}
-use Rattle.code.specs.Definition.{subword, nested, Codeword}
+use Rattle.code.specs.Definition.{syndrome-of, InCode-of, subword, nested, Codeword}
 use Rattle.code.specs.Triangle.{checked-triangle, triangle-codeword}
 
 -- the first half of FORMAT 3.5: each strip belongs to the code of strength t0
 abbrev pub Subwords : Profile → Series → Type 0
-Subwords p s = (i : ℕ) → i < p .subwords → InCode (first-root p) (p .length) (p .t0) (subword (p .length) s i)
+Subwords p s = (i : ℕ) → i < p .subwords → InCode-of p (p .t0) (subword (p .length) s i)
 
 -- ---- tables of syndromes
 
@@ -35,7 +34,7 @@ rows r f i = cond (ltb i r) (f i) O
 
 -- FORMAT 6.1: the table of syndromes, with 0 for what is not known
 abbrev pub received : Profile → Series → ℕ → ℕ → Series
-received p s k = rows (p .subwords) (λ i. cut k (syndrome (first-root p) (p .length) (subword (p .length) s i)))
+received p s k = rows (p .subwords) (λ i. cut k (syndrome-of p (subword (p .length) s i)))
 
 -- ---- m words
 
@@ -51,7 +50,7 @@ module _ (p : Profile) (s : Series) where
 
   -- the subwords below v follow from the others and the nested words: the triangular form
   pub sums-codeword : Valid p
-      → ((w : ℕ) → w < p .subwords → (j : ℕ) → j < checks p w → syndrome (first-root p) (p .length) (sums p s w) j ≡ 𝟎) → Codeword p s
+      → ((w : ℕ) → w < p .subwords → (j : ℕ) → j < checks p w → syndrome-of p (sums p s w) j ≡ 𝟎) → Codeword p s
   sums-codeword ok h =
       triangle-codeword p s ok
       (checked-triangle p s ok (λ i l u j q. rw (sums-high i l) at (h i u j (omega (arith, checks-high p i l))))

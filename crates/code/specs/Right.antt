@@ -16,15 +16,15 @@ use Rattle.series.specs.Series.{Series, ⊞-at}
 use Rattle.profile.specs.declared.Profile.{Profile}
 use Rattle.profile.specs.Definition.{first-root, checks, data-length, data-start}
 use Rattle.profile.specs.Valid.{Valid, checks-below}
-use Rattle.code.specs.Word.{syndrome, systematic}
+use Rattle.code.specs.Word.{systematic}
 use Rattle.code.specs.Systematic.{syndrome-cong, systematic-data, systematic-zero, systematic-unique}
-use Rattle.code.specs.Definition.{subword, Encodes}
+use Rattle.code.specs.Definition.{syndrome-of, subword, Encodes}
 use Rattle.code.specs.Block.{Agree}
 use Rattle.code.specs.Triangle.{carried, corner, carried-cong, codeword-triangle, triangle-codeword}
 
 pub record Right (p : Profile) (d s : Series) (i : ℕ) : Type 0 where
   pub carries : (q : ℕ) → q < data-length p i → subword (p .length) s i (checks p i + q) ≡ d (data-start p i + q)
-  pub zeros : (j : ℕ) → j < checks p i → syndrome (first-root p) (p .length) (corner p s i) j ≡ 𝟎
+  pub zeros : (j : ℕ) → j < checks p i → syndrome-of p (corner p s i) j ≡ 𝟎
 
 pub all-right : (p : Profile) → Valid p → (d s : Series) → ((i : ℕ) → i < p .subwords → Right p d s i) → Encodes p d s
 all-right p ok d s h = record { code = triangle-codeword p s ok (λ i l. h i l .zeros); carries = λ i l. h i l .carries }
@@ -78,7 +78,8 @@ module _ (p : Profile) (ok : Valid p) (d s t : Series) (i : ℕ) (same : Agree p
 pub right-step : (p : Profile) → Valid p → (d s c x : Series) (i : ℕ)
     → ((q : ℕ) → q < p .length → carried p s i q ≡ c q)
     → ((q : ℕ) → q < data-length p i → x (checks p i + q) ≡ d (data-start p i + q) ⊕ c (checks p i + q))
-    → ((q : ℕ) → q < p .length → subword (p .length) s i q ≡ c q ⊕ systematic (first-root p) (p .length) (checks p i) x q)
+    → ((q : ℕ) → q < p .length
+    → subword (p .length) s i q ≡ c q ⊕ systematic (first-root p) (p .length) (checks p i) x q)
     → Right p d s i
 right-step p ok d s c x i carry given is = record {
   carries = λ q l.

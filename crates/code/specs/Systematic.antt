@@ -73,7 +73,8 @@ pub systematic-data : (f n k : ℕ) (w : Series) (i : ℕ) → k ≤ i → syste
 systematic-data f n k w i h = systematic-at f n k w i
     ∙ ap₂ _⊕_ (below-check-symbols f n k w i h) (upper-high k w i h) ∙ zero-⊕ (w i)
 
-pub systematic-zero : (f n k : ℕ) (w : Series) → k < 255 → k ≤ n → (j : ℕ) → j < k → syndrome f n (systematic f n k w) j ≡ 𝟎
+pub systematic-zero : (f n k : ℕ) (w : Series) → k < 255 → k ≤ n → (j : ℕ) → j < k
+    → syndrome f n (systematic f n k w) j ≡ 𝟎
 unfolding systematic check-symbols
 systematic-zero f n k w small room j h =
     syndrome-⊞ f n _ _ j

@@ -14,6 +14,7 @@ use Rattle.series.specs.Array.{bytes}
 use Rattle.profile.specs.declared.Profile.{Profile}
 use Rattle.code.specs.Word.{syndrome}
 use Rattle.code.specs.Combined.{combined}
+use Rattle.code.specs.Definition.{syndrome-of}
 use Rattle.block.specs.Table.{table}
 use Rattle.staged_decoding.specs.Definition.{Progress, open?, window}
 use Rattle.extend.specs.LagrangeDefinition.{flag, lagrange}
@@ -24,7 +25,7 @@ abbrev pub merged : Profile → (ℕ → Bool) → Series → ℕ → Series
 merged p b s i = combined (p .length) s (lagrange (p .subwords) b i) 0 (p .subwords)
 
 abbrev pub extended : Profile → (a b : ℕ) → List Bool → Series → ℕ → Series → Series
-extended p a b o s i r = cond (flag o i) (window a b (syndrome (p .length) (merged p (flag o) s i)) r) r
+extended p a b o s i r = cond (flag o i) (window a b (syndrome-of p (merged p (flag o) s i)) r) r
 
 -- a flag says that the subword is not settled
 pub record Seen (p : Profile) (o : List Bool) (s : List ℕ) (t : List (List Gf)) (g : Progress) : Type 0 where

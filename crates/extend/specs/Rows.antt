@@ -15,23 +15,22 @@ use native.Mathlib.Nat.{zero-add}
 use native.Mathlib.Omega.{arith}
 use lib.Dec.{ltb}
 use lib.ListN.{length, set, take}
-use lib.Seq.{getD-set-same, getD-set-other, length-take-le}
+use lib.Seq.{getD-set-same, getD-set-other}
 use borrow.Author.Tests.{lt-ltb, le-ltb}
 use Rattle.field.specs.declared.Gf.{Gf}
-use Rattle.field.specs.Field.{_⊙_, of}
+use Rattle.field.specs.Field.{_⊙_}
 use Rattle.series.specs.Sum.{sum, sum-cong}
 use Rattle.series.specs.Series.{Series}
 use Rattle.series.specs.Shift.{cut, cut-low}
 use Rattle.series.specs.Array.{bytes}
-use Rattle.series.specs.Part.{read-take}
-use Rattle.series.specs.Value.{value-cong}
 use Rattle.polynomial.specs.Polynomial.{row}
 use Rattle.profile.specs.declared.Profile.{Profile}
+use Rattle.profile.specs.Definition.{first-root}
 use Rattle.profile.specs.Valid.{Valid}
-use Rattle.code.specs.Word.{root, syndrome}
-use Rattle.code.specs.Systematic.{syndrome-is, syndrome-sum}
-use Rattle.divider.specs.ReedSolomonResidue.{residue, residue-syndrome}
-use Rattle.code.specs.Definition.{subword}
+use Rattle.code.specs.Word.{syndrome}
+use Rattle.code.specs.Systematic.{syndrome-from, syndrome-sum}
+use Rattle.divider.specs.ReedSolomonResidue.{residue, residue-array}
+use Rattle.code.specs.Definition.{syndrome-of, subword}
 use Rattle.code.specs.Block.{syndrome-nested}
 use Rattle.code.specs.Combined.{combined}
 use Rattle.block.specs.Table.{table}
@@ -46,18 +45,18 @@ use Rattle.extend.specs.Splice.{window-cong}
 -- ---- the merged words
 
 merged-syndrome : (p : Profile) (b : ℕ → Bool) (s : Series) (i j : ℕ)
-    → syndrome (p .length) (merged p b s i) j
-    ≡ sum (p .subwords) (λ k. lagrange (p .subwords) b i k ⊙ syndrome (p .length) (subword (p .length) s k) j)
+    → syndrome-of p (merged p b s i) j
+    ≡ sum (p .subwords) (λ k. lagrange (p .subwords) b i k ⊙ syndrome-of p (subword (p .length) s k) j)
 unfolding combined
 merged-syndrome p b s i j =
-    syndrome-sum (p .subwords) (p .length) (λ k. lagrange (p .subwords) b i (0 + k))
+    syndrome-sum (first-root p) (p .subwords) (p .length) (λ k. lagrange (p .subwords) b i (0 + k))
     (λ k. subword (p .length) s (0 + k)) j
     ∙ sum-cong (p .subwords) _ _ (λ k l.
-    ap (λ (k : ℕ). lagrange (p .subwords) b i k ⊙ syndrome (p .length) (subword (p .length) s k) j) (zero-add k))
+    ap (λ (k : ℕ). lagrange (p .subwords) b i k ⊙ syndrome-of p (subword (p .length) s k) j) (zero-add k))
 
 module _ (p : Profile) (ok : Valid p) (g : Progress) (i : ℕ) (h : i < p .subwords) where
   pub fresh-merged : open? g i ≡ true → (j : ℕ)
-      → fresh p g i j ≡ syndrome (p .length) (merged p (open? g) (g .block) i) j
+      → fresh p g i j ≡ syndrome-of p (merged p (open? g) (g .block) i) j
   unfolding fresh unsettled
   fresh-merged t j =
       lagrange-solves (p .subwords) (open? g) (omega (arith, ok .subwords .1)) i h t _ _
@@ -66,31 +65,32 @@ module _ (p : Profile) (ok : Valid p) (g : Progress) (i : ℕ) (h : i < p .subwo
 
 -- only the tests of numbers below m count
 merged-cong : (p : Profile) (b c : ℕ → Bool) (s : Series) (i j : ℕ) → ((k : ℕ) → k < p .subwords → b k ≡ c k)
-    → syndrome (p .length) (merged p b s i) j ≡ syndrome (p .length) (merged p c s i) j
+    → syndrome-of p (merged p b s i) j ≡ syndrome-of p (merged p c s i) j
 merged-cong p b c s i j h =
     merged-syndrome p b s i j
     ∙ sum-cong (p .subwords) _ _
-    (λ k l. ap (λ x. x ⊙ syndrome (p .length) (subword (p .length) s k) j) (lagrange-cong (p .subwords) b c i k h))
+    (λ k l. ap (λ x. x ⊙ syndrome-of p (subword (p .length) s k) j) (lagrange-cong (p .subwords) b c i k h))
     ∙ sym (merged-syndrome p c s i j)
 
 -- ---- from the remainder
 
--- a word g stands in the first n entries of the array w, its remainder in the first k of r, and syndromes of the
--- remainder in s
-pub left-syndrome : (first n k b : ℕ) (g : Series) (w r : List ℕ) (s : List Gf)
-    → first + k ≤ 48 → b ≤ first + k → n ≤ length w → length r ≡ 48
-    → bytes w ≡ cut n g → bytes r ≡ residue first (length (take n w)) k (bytes (take n w))
-    → row s ≡ cut b (syndrome (length (take k r)) (bytes (take k r))) → (j : ℕ) → first ≤ j → j < b
-    → row s j ≡ syndrome n g j
-left-syndrome first n k b g w r s small most room long word left is j low h =
-    let e : first + (j - first) ≡ j = omega arith in
-    ap (λ (f : Series). f j) is
+-- a word g stands in the first n entries of the array w, its remainder by the k roots from root a on in the first k of
+-- r, and syndromes of the remainder in s
+pub left-syndrome : (f a n k b : ℕ) (g : Series) (w r : List ℕ) (s : List Gf)
+    → k ≤ 48 → b ≤ a + k → n ≤ length w → length r ≡ 48
+    → bytes w ≡ cut n g → bytes r ≡ residue (f + a) (length (take n w)) k (bytes (take n w))
+    → row s ≡ cut b (syndrome f (length (take k r)) (bytes (take k r))) → (j : ℕ) → a ≤ j → j < b
+    → row s j ≡ syndrome f n g j
+left-syndrome f a n k b g w r s small most room long word left is j low h =
+    let e : a + (j - a) ≡ j = omega arith in
+    ap (λ (v : Series). v j) is
     ∙ cut-low b _ j h
-    ∙ ap (λ (m : ℕ). syndrome m (bytes (take k r)) j) (length-take-le k r (omega arith))
-    ∙ syndrome-is k _ j
-    ∙ value-cong k _ _ (root j)
-    (λ i l. read-take of 0 k r i l ∙ ap (λ (f : Series). f i) (left ∙ prefix-residue first n k w g room word))
-    ∙ (rw e at (residue-syndrome first n k g (omega arith) (j - first) (omega arith)))
+    ∙ ap (syndrome f (length (take k r)) (bytes (take k r))) (sym e)
+    ∙ syndrome-from f a (length (take k r)) (bytes (take k r)) (j - a)
+    ∙ residue-array (f + a) n k g (omega arith) r (omega arith)
+    (left ∙ prefix-residue (f + a) n k w g room word) (j - a) (omega arith)
+    ∙ sym (syndrome-from f a n g (j - a))
+    ∙ ap (syndrome f n g) e
 
 -- ---- rows, one after the other
 
@@ -122,7 +122,7 @@ partly-more out i r f t h e q = fun-ext (λ a. go a (ℕ-discrete a i) (decLt a 
 -- ---- the rows of a round
 
 module _ (p : Profile) (a b : ℕ) (o : List Bool) (s : Series) (i : ℕ) (r : Series) where
-  extended-yes : flag o i ≡ true → extended p a b o s i r ≡ window a b (syndrome (p .length) (merged p (flag o) s i)) r
+  extended-yes : flag o i ≡ true → extended p a b o s i r ≡ window a b (syndrome-of p (merged p (flag o) s i)) r
   extended-yes e = rw e
 
   pub extended-no : flag o i ≡ false → r ≡ extended p a b o s i r
@@ -130,7 +130,7 @@ module _ (p : Profile) (a b : ℕ) (o : List Bool) (s : Series) (i : ℕ) (r : S
 
   -- the new entries are syndromes of the merged word
   pub extended-word : (g out : Series) → flag o i ≡ true
-      → ((j : ℕ) → a ≤ j → j < b → g j ≡ syndrome (p .length) (merged p (flag o) s i) j)
+      → ((j : ℕ) → a ≤ j → j < b → g j ≡ syndrome-of p (merged p (flag o) s i) j)
       → out ≡ window a b g r → out ≡ extended p a b o s i r
   extended-word g out e same q = q ∙ window-cong a b g _ r same ∙ sym (extended-yes e)
 
@@ -140,10 +140,10 @@ module _ (p : Profile) (ok : Valid p) (a b : ℕ) (o : List Bool) (s : List ℕ)
   rows i = extended p a b o (bytes s) i (table t i)
 
   fresh-seen : (i : ℕ) → i < p .subwords → flag o i ≡ true
-      → fresh p g i ≡ syndrome (p .length) (merged p (flag o) (bytes s) i)
+      → fresh p g i ≡ syndrome-of p (merged p (flag o) (bytes s) i)
   fresh-seen i h e = fun-ext (λ j.
       fresh-merged p ok g i h (seen .flags i h ∙ e) j
-      ∙ ap (λ (s : Series). syndrome (p .length) (merged p (open? g) s i) j) (seen .block)
+      ∙ ap (λ (s : Series). syndrome-of p (merged p (open? g) s i) j) (seen .block)
       ∙ merged-cong p (open? g) (flag o) (bytes s) i j (seen .flags))
 
   row-at : (i : ℕ) → g .row i ≡ table t i

@@ -71,11 +71,12 @@ fn extend_row(
         return row;
     }
     let n = p.length as usize;
-    let first = 2 * p.t0 as usize;
+    let first = p.first_root as usize;
+    let past = first + 2 * p.t0 as usize;
     let k = block::codeword::further(p);
     let word = merge(p, pending, block, i);
-    let left = divider::reed_solomon::residue(u, first, k, &word[..n]);
-    splice(divider::evaluation::at_roots(&left[..k], to), from, to, row)
+    let left = divider::reed_solomon::residue(u, past, k, &word[..n]);
+    splice(divider::evaluation::at_roots(first, &left[..k], to), from, to, row)
 }
 
 // The rows of the unsettled subwords go on with syndromes `from` to `to` - 1, in the block as corrected so far, by the

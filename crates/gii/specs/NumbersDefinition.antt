@@ -10,8 +10,8 @@ use mathlib.Core.List.{List, [], _∷_, _++_}
 use lib.ListN.{length, take, drop}
 use Rattle.profile.specs.declared.Refusal.{Refusal}
 use Rattle.profile.specs.declared.Refusal.the-variants.{ProfileSize, Subwords, Nested, Capabilities}
-use Rattle.profile.specs.declared.Refusal.the-variants.{EqualCapabilities, Length, InputSize, OutputSize}
-use Rattle.profile.specs.declared.Refusal.the-variants.{Unsettled, NotCodeword, Subword}
+use Rattle.profile.specs.declared.Refusal.the-variants.{EqualCapabilities, Length, FirstRoot, InputSize}
+use Rattle.profile.specs.declared.Refusal.the-variants.{OutputSize, Unsettled, NotCodeword, Subword}
 use Rattle.profile.specs.declared.Answer.{Answer}
 use Rattle.profile.specs.declared.Answer.the-variants.{Accepted, Refused}
 use Rattle.profile.specs.Definition.{answer-number}
@@ -25,6 +25,7 @@ unsettled-stage Nested = 0
 unsettled-stage Capabilities = 0
 unsettled-stage EqualCapabilities = 0
 unsettled-stage Length = 0
+unsettled-stage FirstRoot = 0
 unsettled-stage InputSize = 0
 unsettled-stage OutputSize = 0
 unsettled-stage (Unsettled r) = r

@@ -28,6 +28,7 @@ fn unsettled_stage(q: Refusal) -> u8
         Refusal::Capabilities => 0,
         Refusal::EqualCapabilities => 0,
         Refusal::Length => 0,
+        Refusal::FirstRoot => 0,
         Refusal::InputSize => 0,
         Refusal::OutputSize => 0,
         Refusal::Unsettled(r) => r,

@@ -98,7 +98,7 @@ module _ (c : Caller) (l : Lent) (p : Profile) where
   pub asked-yes : (r : Profile) → asked c l p ≡ Accepted r → (p ≡ r) × Common (l .profile) r × Own c l r
   unfolding asked
   asked-yes r e =
-      let (accepts, (q1, (q2, (q3, (q4, (q15, (q5, (q14, (data-in, (block-in, (block-out, (data-out, (q10, _))))))))))))) =
+      let (all, (q1, (q2, (q3, (q4, (q15, (q5, (q14, (data-in, (block-in, (block-out, (data-out, (q10, _))))))))))))) =
       all-yes questions (Accepted p) r e in
       let same : p ≡ r = cc in (
         same,

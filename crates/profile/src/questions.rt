@@ -6,8 +6,8 @@ ghost use lib.Dec.{leb, eqb};
 ghost use lib.ListN.{getD};
 ghost use Rattle.profile.specs.Definition.{last as Last};
 ghost use Rattle.profile.specs.Questions.{put, read as Read, encodes as Encodes, decodes as Decodes};
-ghost use Rattle.profile.specs.Questions.{fetches as Fetches, extracts as Extracts, good-subwords, good-nested};
-ghost use Rattle.profile.specs.Questions.{good-capabilities, good-rising, good-length, good-root};
+ghost use Rattle.profile.specs.Questions.{fetches as Fetches, extracts as Extracts, good-size, good-subwords};
+ghost use Rattle.profile.specs.Questions.{good-nested, good-capabilities, good-rising, good-length, good-root};
 ghost use Rattle.profile.specs.Questions.{asked, admitted, factory as Factory};
 use crate::Parsed;
 use crate::Profile;
@@ -81,6 +81,13 @@ fn extracts(c: Caller) -> bool
         Caller::Extract => true,
         Caller::Card => false,
     }
+}
+
+// Whether a profile may have so many bytes: none, seven or eight.
+pub fn size(bytes: usize) -> bool
+    ensures { λ b. ⌜ b ≡ good-size bytes ⌝ }
+{
+    (bytes == 0) | (bytes == 7) | (bytes == 8)
 }
 
 // Whether m is from 1 to 8.
@@ -193,11 +200,10 @@ pub fn judge(caller: Caller, l: Lent, p: Profile) -> Parsed
     let d = decodes(caller);
     let f = fetches(caller);
     let x = extracts(caller);
-    let size = p.block_size();
+    let symbols = p.block_size();
     let payload = p.data_size();
-    let bytes = l.profile;
     let a = Parsed::Accepted(p);
-    let a = ask(a, true, (bytes == 0) | (bytes == 7) | (bytes == 8), Refusal::ProfileSize);
+    let a = ask(a, true, size(l.profile), Refusal::ProfileSize);
     let a = ask(a, true, subwords(p), Refusal::Subwords);
     let a = ask(a, true, nested(p), Refusal::Nested);
     let a = ask(a, true, capabilities(p), Refusal::Capabilities);
@@ -205,8 +211,8 @@ pub fn judge(caller: Caller, l: Lent, p: Profile) -> Parsed
     let a = ask(a, true, length(p), Refusal::Length);
     let a = ask(a, true, root(p), Refusal::FirstRoot);
     let a = ask(a, e, l.input == payload, Refusal::InputSize);
-    let a = ask(a, d | f | x, l.input == size, Refusal::InputSize);
-    let a = ask(a, e | d, l.output == size, Refusal::OutputSize);
+    let a = ask(a, d | f | x, l.input == symbols, Refusal::InputSize);
+    let a = ask(a, e | d, l.output == symbols, Refusal::OutputSize);
     let a = ask(a, x, l.output == payload, Refusal::OutputSize);
     ask(a, f, l.subword < p.subwords as usize, Refusal::Subword)
 }

@@ -29,7 +29,7 @@ use Rattle.profile.specs.Questions.{read, profile-of}
 use Rattle.profile.specs.QuestionsLaws.{admitted-read}
 use Rattle.profile.specs.Valid.{Valid, admitted-valid}
 use Rattle.code.specs.Word.{syndrome}
-use Rattle.code.specs.Definition.{subword, Encodes}
+use Rattle.code.specs.Definition.{syndrome-of, subword, Encodes}
 use Rattle.code.specs.Check.{sums, sums-codeword}
 
 -- ---- values, polynomials, signed numbers
@@ -92,7 +92,7 @@ accepted-is b t =
 -- ---- blocks
 
 unfoldable pub codeword : Profile → Series → Bool
-codeword p s = all (p .subwords) (λ w. all (checks p w) (λ j. equal (syndrome (p .length) (sums p s w) j) 𝟎))
+codeword p s = all (p .subwords) (λ w. all (checks p w) (λ j. equal (syndrome-of p (sums p s w) j) 𝟎))
 
 unfoldable pub carries : Profile → Series → Series → Bool
 carries p d s = all (p .subwords)

@@ -3,13 +3,12 @@
 --   terms x f   the terms of f's value at x: coefficient i times x^i
 --
 -- Proved: a value is the sum of its terms (value-terms); the terms at W 0 are the coefficients (terms-first), those at
--- W (p + q) come from those at W p (terms-add). Inverse locations multiply as their positions add (W-add), each is a
--- power of the first (W-power), and none is zero (W-nonzero).
+-- W (p + q) come from those at W p (terms-add). Inverse locations multiply as their positions add (W-add), and each is
+-- a power of the first (W-power).
 use Prim.Native.Nat.{ℕ, zero, suc, _+_, _≤_}
 use mathlib.Core.Path.{_≡_, refl, sym, ap, ap₂, _∙_, fun-ext}
-use mathlib.Core.Logic.{_≢_}
 use native.Mathlib.Numerals.{add-one}
-use Rattle.field.specs.Field.{F, 𝟎, 𝟏, α, _⊙_, ⊙-one, ⊙-zero, zero-⊙, ⊙-ring, one≢zero, inv-unique, pow, pow-zero}
+use Rattle.field.specs.Field.{F, 𝟏, α, _⊙_, ⊙-one, zero-⊙, ⊙-ring, inv-unique, pow, pow-zero}
 use Rattle.field.specs.Field.{pow-suc, pow-add, pow-⊙, one-pow}
 use Rattle.series.specs.Sum.{sum}
 use Rattle.series.specs.Series.{Series}
@@ -35,9 +34,6 @@ W-add p q = inv-unique _ _ both
 pub W-power : (p : ℕ) → W p ≡ pow (W 1) p
 W-power zero = W-zero ∙ sym (pow-zero _)
 W-power (suc p) = ap W (sym (add-one p)) ∙ W-add p 1 ∙ ap (λ t. t ⊙ W 1) (W-power p) ∙ sym (pow-suc _ p ∙ simp ⊙-ring)
-
-pub W-nonzero : (p : ℕ) → W p ≢ 𝟎
-W-nonzero p z = one≢zero (sym (X-W p) ∙ ap (λ t. X p ⊙ t) z ∙ ⊙-zero _)
 
 -- ---- terms
 

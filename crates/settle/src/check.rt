@@ -1,4 +1,4 @@
-// The test that every pattern is put to, whoever puts it forward.
+// The test that every pattern is put to, whoever puts it forward. The first root is α.
 ghost use Prim.Native.Nat.{suc, _+_, _≤_, _<_, _%_};
 ghost use mathlib.Core.Path.{_≡_};
 ghost use mathlib.Core.Logic.{_≢_, ite};
@@ -46,7 +46,7 @@ fn exponent(e: Exponent, x: Exponent) -> Exponent
 // more than the one before, so that no lookup waits for another.
 fn add_change(power: &[u8; 256], p: usize, y: Gf, m: usize, to: &mut [u8])
     requires { ⌜ (now power ≡ powerTable) × (p < 255) × (val y ≢ 𝟎) × (m ≤ length (now to)) ⌝ }
-    ensures { λ _. ⌜ bytes (now (to .exit)) ≡ bytes (now (to .entry)) ⊞ K (val y) ⊠ cut m (λ j. pow (root j) p) ⌝ }
+    ensures { λ _. ⌜ bytes (now (to .exit)) ≡ bytes (now (to .entry)) ⊞ K (val y) ⊠ cut m (λ j. pow (root 1 j) p) ⌝ }
 {
     let x = Exponent(p);
     let mut e = exponent(y.log(), x);
@@ -63,7 +63,7 @@ fn add_change(power: &[u8; 256], p: usize, y: Gf, m: usize, to: &mut [u8])
 fn count_change(power: &[u8; 256], count: usize, p: usize, y: Gf, m: usize, to: &mut [u8]) -> usize
     requires { ⌜ (now power ≡ powerTable) × (count < 255) × (p < 255) × (m ≤ length (now to)) ⌝ }
     ensures { λ r. ⌜ (r ≡ ite (val y ≟ 𝟎) count (suc count)) ×
-        (bytes (now (to .exit)) ≡ bytes (now (to .entry)) ⊞ K (val y) ⊠ cut m (λ j. pow (root j) p)) ⌝ }
+        (bytes (now (to .exit)) ≡ bytes (now (to .entry)) ⊞ K (val y) ⊠ cut m (λ j. pow (root 1 j) p)) ⌝ }
 {
     if y.is_zero() {
         return count;
@@ -76,7 +76,7 @@ fn count_change(power: &[u8; 256], count: usize, p: usize, y: Gf, m: usize, to: 
 fn effect_of(pattern: [Gf; POSITIONS], n: usize, m: usize) -> Effect
     requires { ⌜ (n ≤ 255) × (m ≤ 48) ⌝ }
     ensures { λ r. ⌜ (r .count ≡ weight n (values pattern))
-        × (bytes (r .syndromes) ≡ cut m (syndrome n (values pattern))) ⌝ }
+        × (bytes (r .syndromes) ≡ cut m (syndrome 1 n (values pattern))) ⌝ }
 {
     let power = field::powers();
     let mut syndromes = [0u8; SYNDROMES];
@@ -112,7 +112,7 @@ fn agree(l: [u8; SYNDROMES], row: [Gf; SYNDROMES], m: usize) -> bool
 pub fn test(pattern: [Gf; POSITIONS], row: [Gf; SYNDROMES], n: usize, t: usize) -> Tested
     requires { ⌜ (n ≤ 255) × (t ≤ 24) ⌝ }
     ensures { λ r. ⌜ (r .count ≡ weight n (values pattern))
-        × (r .explains ≡ holds (explains? t n (Row row) (values pattern))) ⌝ }
+        × (r .explains ≡ holds (explains? 1 t n (Row row) (values pattern))) ⌝ }
 {
     let m = t + t;
     let effect = effect_of(pattern, n, m);

@@ -1,9 +1,11 @@
-// Settling one subword: the pattern that a locator puts forward, by `candidate`, and its test. What the promises speak
-// of stands in settling's specs/Definition.antt, and for the answer in specs/Answer.antt.
+// Settling one subword: the pattern that a locator puts forward, by `candidate`, and its test, both with the first root
+// α; then the pattern for the first root that is asked for, by `untwist`. What the promises speak of stands in
+// settling's specs/Definition.antt, and for the answer in specs/Answer.antt.
 mod candidate;
 mod check;
 mod numerator;
 mod positions;
+mod untwist;
 
 ghost use Prim.Native.Nat.{_*_, _≤_};
 ghost use mathlib.Core.Path.{_≡_};
@@ -40,10 +42,8 @@ fn nothing() -> Settled
     }
 }
 
-// The subword has n symbols; of its syndromes the first 2t count. Whatever the locator and its length are, the pattern
-// that is found explains them. If they are the key-equation solver's after these syndromes, in any of its forms, the
-// answer is what settles the subword.
-pub fn settle(
+// Settles a subword as `settle` does, with the first root α.
+fn settle_at_alpha(
     locator: [Gf; COEFFICIENTS],
     length: usize,
     row: [Gf; SYNDROMES],
@@ -51,9 +51,9 @@ pub fn settle(
     t: usize,
 ) -> Settled
     requires { ⌜ (n ≤ 255) × (t ≤ 24) ⌝ }
-    ensures sound { λ r. ⌜ Sound t n (Row row) r ⌝ }
+    ensures sound { λ r. ⌜ Sound 1 t n (Row row) r ⌝ }
     ensures settled { λ r. ⌜ (Multiple (poly locator) (measure (Row row) (2 * t) .Λ)
-        → length ≡ Length (Row row) (2 * t) → answer n r ≡ Settle t n (Row row)) ⌝ }
+        → length ≡ Length (Row row) (2 * t) → answer n r ≡ Settle 1 t n (Row row)) ⌝ }
 {
     if t < length {
         return nothing();
@@ -72,5 +72,37 @@ pub fn settle(
         found: true,
         count: tested.count as u8,
         pattern: pattern,
+    }
+}
+
+// The first root is α^first. The subword has n symbols; of its syndromes the first 2t count. Whatever the locator and
+// its length are, the pattern that is found explains them. If they are the key-equation solver's after these syndromes,
+// in any of its forms, the answer is what settles the subword. No solver sees the first root: with another one the same
+// positions change, by other values.
+pub fn settle(
+    first: u8,
+    locator: [Gf; COEFFICIENTS],
+    length: usize,
+    row: [Gf; SYNDROMES],
+    n: usize,
+    t: usize,
+) -> Settled
+    requires { ⌜ (n ≤ 255) × (t ≤ 24) ⌝ }
+    ensures sound { λ r. ⌜ Sound first t n (Row row) r ⌝ }
+    ensures settled { λ r. ⌜ (Multiple (poly locator) (measure (Row row) (2 * t) .Λ)
+        → length ≡ Length (Row row) (2 * t) → answer n r ≡ Settle first t n (Row row)) ⌝ }
+{
+    let s = settle_at_alpha(locator, length, row, n, t);
+    if first == 1 {
+        return s;
+    }
+    if !s.found {
+        return s;
+    }
+    let pattern = s.pattern;
+    Settled {
+        found: s.found,
+        count: s.count,
+        pattern: crate::untwist::untwist(first, pattern, n),
     }
 }

@@ -20,7 +20,7 @@ use native.Mathlib.Nat.{mul-comm}
 use native.Mathlib.Omega.{arith}
 use native.Mathlib.Decide.{ℕ-discrete}
 use Rattle.field.specs.Field.{F, 𝟎, 𝟏, α, _⊕_, _⊙_, _≟_, ⊕-self, ⊕-equal, ⊙-assoc, ⊙-left-comm, ⊙-one, ⊙-zero, zero-⊙}
-use Rattle.field.specs.Field.{⊙-ring, ⊙-factor, ⊙-nonzero, one≢zero, inv, mul-inv, inv-unique, inv-nonzero, pow, pow-zero, pow-one}
+use Rattle.field.specs.Field.{⊙-ring, ⊙-factor, ⊙-nonzero, one≢zero, inv, mul-inv, inv-unique, pow, pow-zero, pow-one}
 use Rattle.field.specs.Field.{pow-add, pow-mul, pow-⊙, power-255, power-inj, power-nonzero}
 use Rattle.series.specs.Series.{Series, O, K, _⊞_, _⊠_, ⊠-ring, ⊞-lc, at-zero, O-at, K-at0, ⊞-at, ⊠-at0, K-⊠-at, ⊠-zero}
 use Rattle.series.specs.Degree.{below, below-O, below-K, below-⊞, below-K-⊠}
@@ -56,8 +56,7 @@ unfolding W
 X-W p = mul-inv (X p) (power-nonzero p)
 
 pub W-nonzero : (p : ℕ) → W p ≢ 𝟎
-unfolding W
-W-nonzero p = inv-nonzero (X p) (power-nonzero p)
+W-nonzero p z = one≢zero (sym (X-W p) ∙ ap (λ t. X p ⊙ t) z ∙ ⊙-zero _)
 
 -- as a power of α
 pub W-is : (p : ℕ) → p ≤ 255 → W p ≡ pow α (255 - p)

@@ -24,7 +24,8 @@ use Rattle.code.specs.Word.{root, syndrome}
 use Rattle.code.specs.Systematic.{syndrome-is, syndrome-cong, syndrome-⊞}
 use Rattle.settling.specs.Definition.{Explains, explains?, settle}
 use Rattle.settling.specs.Locator.{W, locator, evaluator, key, below-evaluator, evaluator-nonzero}
-use Rattle.settling.specs.Twist.{twist, untwist, untwisted, twist-zero, twist-untwist, weight-twist, syndrome-twist}
+use Rattle.settling.specs.Twist.{twist, untwist, untwisted, twist-zero, twist-untwist, weight-twist}
+use Rattle.settling.specs.Twist.{weight-untwist, syndrome-twist}
 
 -- ---- at most one pattern explains
 
@@ -59,7 +60,8 @@ explains-unique f t n s e g hn x y p l =
 -- ---- what explains
 
 -- what stands from position n on does not count
-pub explains-cong : (f t n : ℕ) (s e g : Series) → ((p : ℕ) → p < n → e p ≡ g p) → Explains f t n s e → Explains f t n s g
+pub explains-cong : (f t n : ℕ) (s e g : Series) → ((p : ℕ) → p < n → e p ≡ g p) → Explains f t n s e
+    → Explains f t n s g
 explains-cong f t n s e g h x = record {
   within = rw (← (weight-cong n e g h)) (x .within);
   syndromes = λ j l. sym (syndrome-cong f n e g h j) ∙ x .syndromes j l;
@@ -69,7 +71,8 @@ explains-word : (f t n : ℕ) (s e : Series) → Explains f t n s e → Explains
 explains-word f t n s e x = explains-cong f t n s e _ (λ p l. sym (entry-word n e p l)) x
 
 -- nor do syndromes from 2t on
-explains-row : (f t n : ℕ) (s u e : Series) → ((j : ℕ) → j < 2 * t → s j ≡ u j) → Explains f t n s e → Explains f t n u e
+explains-row : (f t n : ℕ) (s u e : Series) → ((j : ℕ) → j < 2 * t → s j ≡ u j) → Explains f t n s e
+    → Explains f t n u e
 explains-row f t n s u e h x = record { within = x .within; syndromes = λ j l. x .syndromes j l ∙ h j l }
 
 -- ---- what settles
@@ -106,7 +109,8 @@ settle-test f t n s g hn right = go (explains? f t n s g)
 pub settle-cong : (f t n : ℕ) (s u : Series) → ((j : ℕ) → j < 2 * t → s j ≡ u j) → settle f t n s ≡ settle f t n u
 unfolding settle
 settle-cong f t n s u h =
-    first-cong n _ _ (λ w l. (explains-row f t n s u (entry w) h, explains-row f t n u s (entry w) (λ j m. sym (h j m))))
+    first-cong n _ _
+    (λ w l. (explains-row f t n s u (entry w) h, explains-row f t n u s (entry w) (λ j m. sym (h j m))))
 
 pub settle-zero : (f t n : ℕ) → n ≤ 255 → settle f t n O ≡ some (word n O)
 settle-zero f t n hn = settle-one f t n O O hn (record {
@@ -124,7 +128,7 @@ explains-twist f t n s e x = record {
 
 pub explains-untwist : (f t n : ℕ) (s e : Series) → Explains 1 t n s e → Explains f t n s (untwist f e)
 explains-untwist f t n s e x = record {
-  within = rw (← (weight-twist f (untwist f e) n), twist-untwist f e) (x .within);
+  within = rw weight-untwist (x .within);
   syndromes = λ j l. sym (syndrome-twist f n (untwist f e) j) ∙ rw (twist-untwist f e) (x .syndromes j l);
 }
 

@@ -48,7 +48,8 @@ module _ (n r : ℕ) (S e : Series) (hn : n ≤ 255) (few : 2 * weight n e ≤ r
     below-σ = below-locator e n;
     below-ω = below-evaluator e n;
     agree =
-        λ i l. ⊠-agree (locator n e) S (syndrome 1 n e) i (λ j h. sym (agrees j (omega arith))) ∙ ap (λ f. f i) (key e n);
+        λ i l. ⊠-agree (locator n e) S (syndrome 1 n e) i (λ j h. sym (agrees j (omega arith)))
+            ∙ ap (λ f. f i) (key e n);
   }
 
   least : L ≤ weight n e

@@ -1,6 +1,6 @@
--- Any first root α^f from the first root α: with the first root α^f a word has the syndromes which it has with the first
--- root α once each symbol is multiplied by its location to the power f − 1. So a pattern is sought with the first root
--- α, and each of its changes is then multiplied by its location to the power 1 − f (FORMAT 6.13).
+-- Any first root α^f from the first root α: a word has, with the first root α^f, the syndromes which it has with the
+-- first root α once each symbol is multiplied by its location to the power f − 1. So a pattern is sought with the first
+-- root α, and each of its changes is then multiplied by its location to the power 1 − f (FORMAT 6.13).
 --
 --   multiplier f p           X_p^(f−1), the column multiplier of position p, for f = 0 too
 --   inverse-multiplier f p   X_p^(1−f)
@@ -8,8 +8,8 @@
 --   untwisted f n o          a pattern of n symbols untwisted, if there is one
 --
 -- Proved: twisting undoes untwisting (twist-untwist), makes no symbol zero (twist-zero) and keeps how many are not
--- (weight-twist); the syndromes are as said (syndrome-twist); with f = 1 nothing changes (untwist-one); the inverse
--- multiplier as a power of α (inverse-multiplier-is).
+-- (weight-twist, weight-untwist); the syndromes are as said (syndrome-twist); the inverse multiplier as a power of α
+-- (inverse-multiplier-is).
 use Prim.Native.Nat.{ℕ, zero, suc, _+_, _-_, _*_, _≤_}
 use mathlib.Core.Path.{_≡_, refl, sym, ap, ap₂, _∙_, fun-ext}
 use mathlib.Core.Logic.{_≢_, by-cases}
@@ -64,7 +64,8 @@ unfolding inverse-multiplier
 inverse-multiplier-is f p h =
     let e : 256 - f + f ≡ 1 + 255 = omega arith in
     let all : pow (X p) (256 - f) ⊙ pow (X p) f ≡ X p =
-    sym (pow-add (X p) (256 - f) f) ∙ ap (pow (X p)) e ∙ pow-add (X p) 1 255 ∙ ap₂ _⊙_ (pow-one (X p)) whole ∙ ⊙-one _ in
+    sym (pow-add (X p) (256 - f) f) ∙ ap (pow (X p)) e ∙ pow-add (X p) 1 255
+    ∙ ap₂ _⊙_ (pow-one (X p)) whole ∙ ⊙-one _ in
     ap (λ x. x ⊙ pow (W p) f) (sym all)
     ∙ ⊙-assoc _ _ _
     ∙ ap (λ x. pow (X p) (256 - f) ⊙ x) (powers-cancel f p)
@@ -72,19 +73,17 @@ inverse-multiplier-is f p h =
     ∙ sym (pow-mul α p (256 - f))
   where
     whole : pow (X p) 255 ≡ 𝟏
-    whole = sym (pow-mul α p 255) ∙ ap (pow α) (mul-comm p 255) ∙ pow-mul α 255 p ∙ ap (λ x. pow x p) power-255 ∙ one-pow p
+    whole = sym (pow-mul α p 255) ∙ ap (pow α) (mul-comm p 255) ∙ pow-mul α 255 p ∙ ap (λ x. pow x p) power-255
+        ∙ one-pow p
 
 -- ---- words
 
 pub twist-untwist : (f : ℕ) (e : Series) → twist f (untwist f e) ≡ e
 unfolding twist untwist
 twist-untwist f e = fun-ext (λ p.
-    let s : multiplier f p ⊙ (inverse-multiplier f p ⊙ e p) ≡ inverse-multiplier f p ⊙ multiplier f p ⊙ e p = simp ⊙-ring in
+    let s : multiplier f p ⊙ (inverse-multiplier f p ⊙ e p) ≡ inverse-multiplier f p ⊙ multiplier f p ⊙ e p =
+    simp ⊙-ring in
     s ∙ ap (λ t. t ⊙ e p) (multipliers f p) ∙ one-⊙ _)
-
-pub untwist-one : (e : Series) → untwist 1 e ≡ e
-unfolding untwist inverse-multiplier
-untwist-one e = fun-ext (λ p. ap (λ t. X p ⊙ t ⊙ e p) (pow-one (W p)) ∙ ap (λ t. t ⊙ e p) (X-W p) ∙ one-⊙ _)
 
 pub twist-zero : (f : ℕ) (e : Series) (p : ℕ) → twist f e p ≡ 𝟎 → e p ≡ 𝟎
 unfolding twist
@@ -98,6 +97,17 @@ weight-twist f e (suc n) = by-cases (e n ≟ 𝟎)
     (λ z. weight-take n _ (⊙-nonzero _ _ (multiplier-nonzero f n) z) ∙ ap suc (weight-twist f e n)
     ∙ sym (weight-take n _ z))
 
+pub weight-untwist : (f : ℕ) (e : Series) (n : ℕ) → weight n (untwist f e) ≡ weight n e
+weight-untwist f e n = sym (weight-twist f (untwist f e) n) ∙ ap (weight n) (twist-untwist f e)
+
+pub untwist-cong : (f : ℕ) (e g : Series) (p : ℕ) → e p ≡ g p → untwist f e p ≡ untwist f g p
+unfolding untwist
+untwist-cong f e g p = ap (λ y. inverse-multiplier f p ⊙ y)
+
+pub untwist-at : (f : ℕ) (e : Series) (p : ℕ) → untwist f e p ≡ inverse-multiplier f p ⊙ e p
+unfolding untwist
+untwist-at f e p = refl
+
 -- ---- syndromes
 
 -- the power p of root j: with the first root α^f it is the multiplier times what it is with the first root α
@@ -106,7 +116,8 @@ unfolding root multiplier
 power-twist f j p =
     turned (f + j)
     ∙ pow-add (X p) f j
-    ∙ sym (ap (λ t. pow (X p) f ⊙ W p ⊙ t) (turned (1 + j) ∙ pow-add (X p) 1 j ∙ ap (λ t. t ⊙ pow (X p) j) (pow-one (X p)))
+    ∙ sym (ap (λ t. pow (X p) f ⊙ W p ⊙ t)
+    (turned (1 + j) ∙ pow-add (X p) 1 j ∙ ap (λ t. t ⊙ pow (X p) j) (pow-one (X p)))
     ∙ last (pow (X p) f) (X p) (W p) (pow (X p) j) (X-W p))
   where
     turned : (k : ℕ) → pow (pow α k) p ≡ pow (X p) k

@@ -18,9 +18,8 @@ use Rattle.profile.specs.declared.Profile.{Profile}
 use Rattle.profile.specs.Definition.{capability, first-root, block-size}
 use Rattle.profile.specs.Valid.{Valid}
 use Rattle.code.specs.Definition.{subword, Codeword}
-use Rattle.settling.specs.Definition.{settle}
 use Rattle.settling.specs.Settle.{settle-one, settle-cong}
-use Rattle.staged_decoding.specs.Definition.{total, clean, corrected, count-of, stage-of}
+use Rattle.staged_decoding.specs.Definition.{total, clean, corrected, count-of, stage-of, settle-at}
 use Rattle.staged_decoding.specs.Definition.{Progress, start, line-at, line-rounds, extend}
 use Rattle.staged_decoding.specs.Definition.{Report, report, accepted, decode, differences}
 use Rattle.staged_decoding.specs.Count.{total-cong}
@@ -105,12 +104,12 @@ module _ (p : Profile) (y d : Series) (x : Report) (e : decode p y ≡ accepted 
   accepted-last = omega (arith, last-is, a .over .low)
 
   pub accepted-pattern : Valid p → (i k s : ℕ) → i < p .subwords → x .line i ≡ corrected k s
-      → (s ≤ x .last) × (settle (first-root p) (capability p s) (p .length) (entry (joined (x .rounds i)))
+      → (s ≤ x .last) × (settle-at p s (entry (joined (x .rounds i)))
       ≡ some (word (p .length) (subword (p .length) (y ⊞ d) i)))
   unfolding report
   accepted-pattern ok i k s h f = (
     omega (arith, at-stage, last-is, x-settled .passed),
-    ap (settle (first-root p) (capability p s) (p .length)) rounds ∙ agree ∙ settles,
+    ap (settle-at p s) rounds ∙ agree ∙ settles,
   )
     where
       x-settled : Settled p y (suc (a .last)) g i (x .line i)
@@ -128,11 +127,12 @@ module _ (p : Profile) (y d : Series) (x : Report) (e : decode p y ≡ accepted 
           ∙ ap (λ l. entry (joined (line-rounds p (g .row i) l))) (sym (line-is i) ∙ f)
           ∙ ap entry (rounds-joined p ok (g .row i) s s-low)
 
-      agree : settle (first-root p) (capability p s) (p .length) (entry (word (2 * capability p s) (g .row i)))
-          ≡ settle (first-root p) (capability p s) (p .length) (g .row i)
+      agree : settle-at p s (entry (word (2 * capability p s) (g .row i)))
+          ≡ settle-at p s (g .row i)
       agree = settle-cong (first-root p) (capability p s) (p .length) _ _ (λ j l. entry-word _ (g .row i) j l)
 
-      settles : settle (first-root p) (capability p s) (p .length) (g .row i) ≡ some (word (p .length) (subword (p .length) (y ⊞ d) i))
+      settles : settle-at p s (g .row i) ≡ some (word (p .length) (subword (p .length) (y ⊞ d) i))
       settles =
-          settle-one (first-root p) (capability p s) (p .length) (g .row i) _ (ok .length .1) (rw at-stage at (x-settled .explained))
+          settle-one (first-root p) (capability p s) (p .length) (g .row i) _ (ok .length .1)
+          (rw at-stage at (x-settled .explained))
           ∙ ap (λ b. some (word (p .length) (subword (p .length) (y ⊞ b) i))) (sym (a .block))

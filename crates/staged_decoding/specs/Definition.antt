@@ -8,6 +8,7 @@
 --   Progress             the block as corrected so far, the lines of the subwords that are settled, the rows
 --                        of syndromes
 --   start p y            the progress before stage 0, y being received
+--   settle-at p r s      the pattern that settles a subword with the row s at stage r; none if there is none
 --   found p r g i        the pattern that settles subword i at stage r; none if there is none, or it was settled before
 --   step p r i g         stage r for subword i alone; stage p r g: for all of them
 --   open? g i            whether subword i is not settled; unsettled p g: how many are not
@@ -33,8 +34,7 @@ use Rattle.series.specs.Decide.{holds}
 use Rattle.series.specs.Word.{entry, word, weight}
 use Rattle.profile.specs.declared.Profile.{Profile}
 use Rattle.profile.specs.Definition.{capability, first-root}
-use Rattle.code.specs.Word.{syndrome}
-use Rattle.code.specs.Definition.{subword, nested}
+use Rattle.code.specs.Definition.{syndrome-of, subword, nested}
 use Rattle.code.specs.Encoding.{codeword?}
 use Rattle.code.specs.Check.{received}
 use Rattle.settling.specs.Definition.{settle}
@@ -109,9 +109,13 @@ unsettled p g = count (p .subwords) (open? g)
 unfoldable pub add : ℕ → ℕ → Series → Series → Series
 add n i e s = s ⊞ zpow (i * n) ⊠ e
 
+-- the pattern that settles a subword with the row s at stage r
+abbrev pub settle-at : Profile → ℕ → Series → Option (List F)
+settle-at p r = settle (first-root p) (capability p r) (p .length)
+
 -- FORMAT 6.3: the pattern that explains the strip settles it; if there is none, the strip fails this stage
 unfoldable pub found : Profile → ℕ → Progress → ℕ → Option (List F)
-found p r g i = cond (open? g i) (settle (first-root p) (capability p r) (p .length) (g .row i)) none
+found p r g i = cond (open? g i) (settle-at p r (g .row i)) none
 
 abbrev pub correct : Profile → ℕ → ℕ → Option (List F) → Progress → Progress
 correct p r i none g = g
@@ -136,7 +140,7 @@ unfoldable pub node : Profile → Progress → ℕ → F
 node p g w = pow α (nth (p .subwords) (open? g) w)
 
 unfoldable pub system : Profile → Progress → ℕ → ℕ → F
-system p g j = solution (unsettled p g) (node p g) (λ l. syndrome (first-root p) (p .length) (nested p (g .block) l) j)
+system p g j = solution (unsettled p g) (node p g) (λ l. syndrome-of p (nested p (g .block) l) j)
 
 -- subword i is i_w, w being how many unsettled ones stand before it
 unfoldable pub fresh : Profile → Progress → ℕ → Series

@@ -24,9 +24,8 @@ use Rattle.series.specs.Word.{entry, word, weight, entry-word, weight-cong}
 use Rattle.profile.specs.declared.Profile.{Profile}
 use Rattle.profile.specs.Definition.{capability, first-root}
 use Rattle.profile.specs.Valid.{Valid, capability-mono}
-use Rattle.code.specs.Word.{syndrome}
 use Rattle.code.specs.Systematic.{syndrome-cong}
-use Rattle.code.specs.Definition.{subword, nested}
+use Rattle.code.specs.Definition.{syndrome-of, subword, nested}
 use Rattle.code.specs.Block.{syndrome-nested}
 use Rattle.settling.specs.Definition.{Explains}
 use Rattle.settling.specs.Settle.{settle-one, settle-cong}
@@ -50,7 +49,7 @@ pub record Done (p : Profile) (c y : Series) (r : ℕ) (g : Progress) (i : ℕ) 
 pub record Due (p : Profile) (c y : Series) (r k : ℕ) (g : Progress) (i : ℕ) : Type 0 where
   pub over : (q : ℕ) → q < r → capability p q < differences p y c i
   pub same : (q : ℕ) → q < p .length → subword (p .length) (g .block) i q ≡ subword (p .length) y i q
-  pub row-is : (j : ℕ) → j < k → g .row i j ≡ syndrome (first-root p) (p .length) (subword (p .length) (y ⊞ c) i) j
+  pub row-is : (j : ℕ) → j < k → g .row i j ≡ syndrome-of p (subword (p .length) (y ⊞ c) i) j
 
 abbrev pub Fate : Profile → Series → Series → ℕ → ℕ → Progress → ℕ → Option Line → Type 0
 Fate p c y r k g i none = Due p c y r k g i
@@ -68,7 +67,7 @@ module _ (p : Profile) (ok : Valid p) (c y : Series) (u : Unmistaken p c y) wher
   error i = subword n (y ⊞ c) i
 
   abbrev S : ℕ → Series
-  S i = syndrome (first-root p) n (error i)
+  S i = syndrome-of p (error i)
 
   -- ---- the start
 
@@ -81,7 +80,7 @@ module _ (p : Profile) (ok : Valid p) (c y : Series) (u : Unmistaken p c y) wher
         rw (lt-ltb i (p .subwords) h)
         (cut-low (2 * capability p 0) _ j l
         ∙ sym (syndrome-sum-block (first-root p) n y c i j
-        ∙ ap (λ t. syndrome (first-root p) n (subword n y i) j ⊕ t) (u .written .subwords i h j l) ∙ ⊕-zero _));
+        ∙ ap (λ t. syndrome-of p (subword n y i) j ⊕ t) (u .written .subwords i h j l) ∙ ⊕-zero _));
   }
 
   -- ---- a stage
@@ -94,7 +93,8 @@ module _ (p : Profile) (ok : Valid p) (c y : Series) (u : Unmistaken p c y) wher
       -- more changes than allowed
       beyond-stays : capability p r < differences p y c i → Next
       beyond-stays over =
-          let f : found p r g i ≡ none = found-open p r g i e ∙ settle-cong (first-root p) (capability p r) n _ _ (d .row-is)
+          let f : found p r g i ≡ none =
+          found-open p r g i e ∙ settle-cong (first-root p) (capability p r) n _ _ (d .row-is)
           ∙ u .never r low reached i h over in
           rw (stage-line p r g i h none none e f) (record {
             over = up-to (λ q. capability p q < differences p y c i) r (d .over) over;
@@ -160,20 +160,22 @@ module _ (p : Profile) (ok : Valid p) (c y : Series) (u : Unmistaken p c y) wher
 
     -- a subword's syndromes, as far as corrected: the written one's, and those of the changes that are still there
     corrected-syndrome : (i : ℕ) → i < p .subwords → (j : ℕ)
-        → syndrome (first-root p) n (subword n (g .block) i) j ≡ syndrome (first-root p) n (subword n c i) j ⊕ cond (open? g i) (S i j) 𝟎
+        → syndrome-of p (subword n (g .block) i) j ≡ syndrome-of p (subword n c i) j ⊕ cond (open? g i) (S i j) 𝟎
     corrected-syndrome i h j = go (g .line i) (f i h)
       where
         go : (o : Option Line) → Fate p c y (suc r) k g i o
-            → syndrome (first-root p) n (subword n (g .block) i) j ≡ syndrome (first-root p) n (subword n c i) j ⊕ cond (unsettled-line o) (S i j) 𝟎
+            → syndrome-of p (subword n (g .block) i) j
+            ≡ syndrome-of p (subword n c i) j ⊕ cond (unsettled-line o) (S i j) 𝟎
         go none d =
             syndrome-cong (first-root p) n _ _ (d .same) j
-            ∙ sym (ap (λ t. syndrome (first-root p) n (subword n c i) j ⊕ t) (syndrome-sum-block (first-root p) n y c i j ∙ ⊕-comm _ _)
+            ∙ sym (ap (λ t. syndrome-of p (subword n c i) j ⊕ t)
+            (syndrome-sum-block (first-root p) n y c i j ∙ ⊕-comm _ _)
             ∙ ⊕-self-left _ _)
         go (some l) d = syndrome-cong (first-root p) n _ _ (d .same) j ∙ sym (⊕-zero _)
 
     -- so a nested word's syndromes are those of the changes that are still there
     nested-syndrome : (l j : ℕ) → l < p .nested → j < 2 * capability p (p .nested - l)
-        → syndrome (first-root p) n (nested p (g .block) l) j ≡ sum (p .subwords) (λ i. cond (open? g i) (pow α (i * l) ⊙ S i j) 𝟎)
+        → syndrome-of p (nested p (g .block) l) j ≡ sum (p .subwords) (λ i. cond (open? g i) (pow α (i * l) ⊙ S i j) 𝟎)
     nested-syndrome l j hl hj =
         syndrome-nested p (g .block) l j
         ∙ sum-cong (p .subwords) _ _ (λ i h. ap (λ t. pow α (i * l) ⊙ t) (corrected-syndrome i h j) ∙ ⊙-⊕ _ _ _)

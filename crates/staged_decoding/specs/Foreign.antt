@@ -13,8 +13,7 @@ use Rattle.series.specs.Shift.{cut-low}
 use Rattle.profile.specs.declared.Profile.{Profile}
 use Rattle.profile.specs.Definition.{capability, first-root}
 use Rattle.profile.specs.Valid.{Valid, capability-mono}
-use Rattle.code.specs.Word.{syndrome, InCode}
-use Rattle.code.specs.Definition.{subword}
+use Rattle.code.specs.Definition.{syndrome-of, InCode-of, subword}
 use Rattle.code.specs.Check.{Subwords}
 use Rattle.staged_decoding.specs.Definition.{Progress, start, settled, stages, foreign, decode}
 use Rattle.staged_decoding.specs.Stage.{stage-row}
@@ -26,7 +25,7 @@ use Rattle.staged_decoding.specs.Sound.{Settled, sound-after, line-there
 module _ (p : Profile) (ok : Valid p) (y : Series) where
   -- the first syndromes are the received ones throughout
   row-first : (r : ℕ) → r ≤ p .nested → (i j : ℕ) → i < p .subwords → j < 2 * capability p 0
-      → after-stage p y r .row i j ≡ syndrome (first-root p) (p .length) (subword (p .length) y i) j
+      → after-stage p y r .row i j ≡ syndrome-of p (subword (p .length) y i) j
   unfolding before-stage start
   row-first zero low i j h l =
       ap (λ (s : ℕ → Series). s i j) (stage-row p 0 (start p y))
@@ -37,7 +36,7 @@ module _ (p : Profile) (ok : Valid p) (y : Series) where
       ∙ row-first r (omega arith) i j h l
 
   pub settled-in-code : (s : ℕ) → Over p y s → (i : ℕ) → i < p .subwords
-      → InCode (first-root p) (p .length) (capability p 0) (subword (p .length) (after-stage p y s .block) i)
+      → InCode-of p (capability p 0) (subword (p .length) (after-stage p y s .block) i)
   settled-in-code s over i h j l =
       let (line, f) = line-there p (after-stage p y s) (over .none-left) i h in
       let x : Settled p y (suc s) (after-stage p y s) i line = rw f at (sound-after p y s i h) in
@@ -50,7 +49,7 @@ module _ (p : Profile) (ok : Valid p) (y : Series) where
       sym (⊕-self-left (S y) _) ∙ ap (λ t. S y ⊕ t) added ∙ ⊕-self (S y)
     where
       S : Series → F
-      S b = syndrome (first-root p) (p .length) (subword (p .length) b i) j
+      S b = syndrome-of p (subword (p .length) b i) j
 
   -- the same where the stages end
   pub settled-subwords : (r : ℕ) (g : Progress)

@@ -15,11 +15,9 @@ use mathlib.Core.Option.{none}
 use lib.Dec.{ltb}
 use Rattle.series.specs.Series.{Series, _⊞_}
 use Rattle.profile.specs.declared.Profile.{Profile}
-use Rattle.profile.specs.Definition.{capability, first-root}
-use Rattle.code.specs.Word.{syndrome}
-use Rattle.code.specs.Definition.{subword, Codeword}
-use Rattle.settling.specs.Definition.{settle}
-use Rattle.staged_decoding.specs.Definition.{count, total, line-of, Report, differences}
+use Rattle.profile.specs.Definition.{capability}
+use Rattle.code.specs.Definition.{syndrome-of, subword, Codeword}
+use Rattle.staged_decoding.specs.Definition.{count, total, line-of, settle-at, Report, differences}
 
 abbrev pub beyond? : Profile → Series → Series → ℕ → ℕ → Bool
 beyond? p c y r i = ltb (capability p r) (differences p y c i)
@@ -35,7 +33,7 @@ pub record Unmistaken (p : Profile) (c y : Series) : Type 0 where
   pub written : Codeword p c
   pub never : (r : ℕ) → r ≤ p .nested → Reached p c y r → (i : ℕ) → i < p .subwords
       → capability p r < differences p y c i
-      → settle (first-root p) (capability p r) (p .length) (syndrome (first-root p) (p .length) (subword (p .length) (y ⊞ c) i)) ≡ none
+      → settle-at p r (syndrome-of p (subword (p .length) (y ⊞ c) i)) ≡ none
 
 pub record Restorable (p : Profile) (c y : Series) : Type 0 where
   pub unmistaken : Unmistaken p c y

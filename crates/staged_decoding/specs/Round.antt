@@ -20,10 +20,9 @@ use Rattle.series.specs.Sum.{sum, sum-cong}
 use Rattle.series.specs.Series.{Series}
 use Rattle.series.specs.Interpolation.{Distinct, solution-solves, solution-unique}
 use Rattle.profile.specs.declared.Profile.{Profile}
-use Rattle.profile.specs.Definition.{first-root}
 use Rattle.profile.specs.Valid.{Valid}
 use Rattle.code.specs.Word.{syndrome}
-use Rattle.code.specs.Definition.{nested}
+use Rattle.code.specs.Definition.{syndrome-of, nested}
 use Rattle.staged_decoding.specs.Definition.{nth, put, Line, Progress, open?, unsettled}
 use Rattle.staged_decoding.specs.Definition.{node, system, fresh, window, extend}
 use Rattle.staged_decoding.specs.Count.{nth-lt, nth-rising}
@@ -97,7 +96,7 @@ abbrev pub Meets : Profile → Progress → ℕ → (ℕ → F) → Type 0
 Meets p g j S =
     (l : ℕ) → l < unsettled p g
     → sum (unsettled p g) (λ w. pow α (nth (p .subwords) (open? g) w * l) ⊙ S w)
-    ≡ syndrome (first-root p) (p .length) (nested p (g .block) l) j
+    ≡ syndrome-of p (nested p (g .block) l) j
 
 module _ (p : Profile) (ok : Valid p) (g : Progress) where
   nodes-distinct : Distinct (unsettled p g) (node p g)

@@ -33,7 +33,8 @@ use Rattle.staged_decoding.specs.Differences.{subword-⊞}
 pub record Settled (p : Profile) (y : Series) (r : ℕ) (g : Progress) (i : ℕ) (l : Line) : Type 0 where
   pub stage : ℕ
   pub passed : stage < r
-  pub explained : Explains (first-root p) (capability p stage) (p .length) (g .row i) (subword (p .length) (y ⊞ g .block) i)
+  pub explained : Explains (first-root p) (capability p stage) (p .length) (g .row i)
+      (subword (p .length) (y ⊞ g .block) i)
   pub line-is : l ≡ line-of stage (weight (p .length) (subword (p .length) (y ⊞ g .block) i))
 
 abbrev pub Told : Profile → Series → ℕ → Progress → ℕ → Option Line → Type 0
@@ -79,7 +80,8 @@ module _ (p : Profile) (y : Series) where
       stage = r;
       passed = omega arith;
       explained =
-          rw row-is (explains-cong (first-root p) (capability p r) n (g .row i) (entry w) _ sums (found-some p r g i w e .explains));
+          rw row-is (explains-cong (first-root p) (capability p r) n (g .row i) (entry w) _ sums
+          (found-some p r g i w e .explains));
       line-is = ap (line-of r) (weight-cong n (entry w) _ sums);
     }
       where

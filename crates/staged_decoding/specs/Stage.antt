@@ -29,10 +29,10 @@ use Rattle.profile.specs.declared.Profile.{Profile}
 use Rattle.profile.specs.Definition.{capability, first-root, block-size}
 use Rattle.code.specs.Definition.{subword}
 use Rattle.code.specs.Block.{subword-at}
-use Rattle.settling.specs.Definition.{Explains, settle}
+use Rattle.settling.specs.Definition.{Explains}
 use Rattle.settling.specs.Settle.{settle-some}
-use Rattle.staged_decoding.specs.Definition.{put, each, Line, corrected, line-of, count-of, stage-of}
-use Rattle.staged_decoding.specs.Definition.{Progress, unsettled-line, add, found, correct, step, stage}
+use Rattle.staged_decoding.specs.Definition.{put, each, Line, corrected, line-of, count-of, stage-of, add}
+use Rattle.staged_decoding.specs.Definition.{Progress, unsettled-line, settle-at, found, correct, step, stage}
 
 -- ---- progress, part by part
 
@@ -114,7 +114,7 @@ add-past m n i e s b h a l =
 -- ---- what is found
 
 pub found-open : (p : Profile) (r : ℕ) (g : Progress) (i : ℕ) → g .line i ≡ none
-    → found p r g i ≡ settle (first-root p) (capability p r) (p .length) (g .row i)
+    → found p r g i ≡ settle-at p r (g .row i)
 unfolding found
 found-open p r g i e = rw e
 
@@ -133,7 +133,8 @@ found-some p r g i w e = go (g .line i) refl
     go : (o : Option Line) → g .line i ≡ o → Found p r g i w
     go (some l) h = absurd (Option·none-ne-some w (sym (found-settled p r g i l h) ∙ e))
     go none h =
-        let (l, x) = settle-some (first-root p) (capability p r) (p .length) (g .row i) w (sym (found-open p r g i h) ∙ e) in
+        let (l, x) =
+        settle-some (first-root p) (capability p r) (p .length) (g .row i) w (sym (found-open p r g i h) ∙ e) in
         record { unsettled = h; size = l; explains = x }
 
 pub below-entry : (n : ℕ) (w : List F) → length w ≡ n → below n (entry w)
@@ -144,7 +145,7 @@ found-cong : (p : Profile) (r : ℕ) (g h : Progress) (i : ℕ) → g .line i �
     → found p r g i ≡ found p r h i
 unfolding found
 found-cong p r g h i e f =
-    ap₂ (λ (o : Option Line) (s : ℕ → Series). cond (unsettled-line o) (settle (first-root p) (capability p r) (p .length) (s i)) none)
+    ap₂ (λ (o : Option Line) (s : ℕ → Series). cond (unsettled-line o) (settle-at p r (s i)) none)
     e f
 
 -- ---- one subword

@@ -4,9 +4,9 @@
 --   earlier p S r     these stages, taken as rounds of the row S
 --   Ready p f r S s   s is a solver in the form f, at the end of these rounds; and S is zero past the syndromes that
 --                     stage r looks at
---   Tried t n S s a   a is the answer of settling with what the solver s has found: sound, whatever s is; and the
---                     pattern that settles the subword, if s is at the end of rounds that are the first 2t
---                     syndromes of S
+--   Tried h t n S s a a is the answer of settling, the first root being α^h, with what the solver s has found: sound,
+--                     whatever s is; and the pattern that settles the subword, if s is at the end of rounds that are
+--                     the first 2t syndromes of S
 use Prim.Native.Nat.{ℕ, zero, suc, _*_}
 use mathlib.Core.Path.{_≡_}
 use mathlib.Core.List.{List, []}
@@ -37,8 +37,8 @@ pub record Ready (p : Profile) (f : Form) (r : ℕ) (S : Series) (s : Solver) : 
   pub ended : Ended f (earlier p S r) s
   pub past : below (2 * capability p r) S
 
-abbrev pub Tried : (t n : ℕ) → Series → Solver → Settled → Type 0
-Tried t n S s a =
-    Sound t n S a
+abbrev pub Tried : (h t n : ℕ) → Series → Solver → Settled → Type 0
+Tried h t n S s a =
+    Sound h t n S a
     × ((f : Form) (rounds : List (List F)) → Ended f rounds s → joined rounds ≡ word (2 * t) S
-    → answer n a ≡ settle t n S)
+    → answer n a ≡ settle h t n S)

@@ -8,14 +8,13 @@ use mathlib.Core.Logic.{_≢_}
 use native.Mathlib.Omega.{arith}
 use Rattle.series.specs.Series.{Series}
 use Rattle.profile.specs.declared.Profile.{Profile}
-use Rattle.profile.specs.Definition.{capability}
+use Rattle.profile.specs.Definition.{capability, first-root}
 use Rattle.profile.specs.Valid.{Valid}
 use Rattle.solver.specs.declared.Form.{Form}
 use Rattle.solver.specs.declared.Solver.{Solver}
-use Rattle.settling.specs.Definition.{settle}
 use Rattle.settle.specs.declared.Settled.{Settled}
 use Rattle.settle.specs.Answer.{answer, Sound}
-use Rattle.staged_decoding.specs.Definition.{rounds-of}
+use Rattle.staged_decoding.specs.Definition.{settle-at, rounds-of}
 use Rattle.staged_decoding.specs.Rounds.{rounds-joined}
 use Rattle.solver.specs.ContinuationDefinition.{Ended, Advanced}
 use Rattle.solver.specs.ContinuationStages.{stage-first, stage-next}
@@ -40,12 +39,13 @@ module _ (p : Profile) (r : ℕ) where
 
 module _ (p : Profile) (ok : Valid p) (r : ℕ) (h : r ≤ p .nested) (S : Series) (s q : Solver) (a : Settled) where
   pub kept : (u v t : ℕ) → u ≡ seen-before p r → v ≡ 2 * capability p r → t ≡ capability p r → Advanced u v S s q
-      → Tried t (p .length) S q a
-      → Sound (capability p r) (p .length) S a
-      × (((f : Form) → Ready p f r S s → answer (p .length) a ≡ settle (capability p r) (p .length) S)
+      → Tried (first-root p) t (p .length) S q a
+      → Sound (first-root p) (capability p r) (p .length) S a
+      × (((f : Form) → Ready p f r S s → answer (p .length) a ≡ settle-at p r S)
       × ((f : Form) → Ready p f r S s → Ended f (rounds-of p S r) q))
   kept u v t eu ev et advanced tried =
-      let at : Tried (capability p r) (p .length) S q a = subst (λ t. Tried t (p .length) S q a) et tried in
+      let at : Tried (first-root p) (capability p r) (p .length) S q a =
+      subst (λ t. Tried (first-root p) t (p .length) S q a) et tried in
       (at .0, (λ f ready. at .1 f _ (end f ready) (rounds-joined p ok S r h), end))
     where
       end : (f : Form) → Ready p f r S s → Ended f (rounds-of p S r) q

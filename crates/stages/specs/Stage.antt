@@ -24,10 +24,9 @@ use Rattle.profile.specs.declared.Profile.{Profile}
 use Rattle.profile.specs.Definition.{capability}
 use Rattle.block.specs.Table.{table}
 use Rattle.solver.specs.declared.Form.{Form}
-use Rattle.settling.specs.Definition.{settle}
 use Rattle.solver.specs.ContinuationDefinition.{Ended}
 use Rattle.staged_decoding.specs.Definition as staged
-use Rattle.staged_decoding.specs.Definition.{Progress, each, step, stage}
+use Rattle.staged_decoding.specs.Definition.{Progress, each, settle-at, step, stage}
 use Rattle.staged_decoding.specs.Stage.{progress-equal, each-none, each-more, put-same, put-other, found-open}
 use Rattle.staged_decoding.specs.Stage.{found-settled, step-none, step-some}
 use Rattle.stages.specs.AttemptDefinition.{Ready}
@@ -169,7 +168,7 @@ module _ (p : Profile) (f : Form) (r : ℕ) (t : List (List Gf)) where
 
       -- it was not, and w is what settles it now
       pending-next : getD pending k d ≡ true → (w : Option (List F))
-          → settle (capability p r) (p .length) (table t k) ≡ w
+          → settle-at p r (table t k) ≡ w
           → Took p f r k (table t k) w (bytes b) (bytes c) q → Next
       unfolding view
       pending-next h none is (waits, same, blank, ended) =
@@ -192,7 +191,7 @@ module _ (p : Profile) (f : Form) (r : ℕ) (t : List (List Gf)) where
 
       pub mid-next : (z : List Gf) → k < length t → (getD pending k d ≡ false → Stayed (getD lines k e) b c q)
           → (getD pending k d ≡ true → (f : Form) → Ready p f r (row (getD t k z)) (getD lines k e .solver)
-          → Took p f r k (row (getD t k z)) (settle (capability p r) (p .length) (row (getD t k z)))
+          → Took p f r k (row (getD t k z)) (settle-at p r (row (getD t k z)))
           (bytes b) (bytes c) q) → Next
       unfolding view
       mid-next z there stays goes = go (getD pending k d) refl

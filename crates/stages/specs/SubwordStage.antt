@@ -25,7 +25,7 @@ use Rattle.series.specs.Decide.{holds}
 use Rattle.polynomial.specs.Polynomial.{row}
 use Rattle.polynomial.specs.SyndromesZero.{zero?, zero-not}
 use Rattle.profile.specs.declared.Profile.{Profile}
-use Rattle.profile.specs.Definition.{capability}
+use Rattle.profile.specs.Definition.{capability, first-root}
 use Rattle.solver.specs.declared.Form.{Form}
 use Rattle.solver.specs.declared.Solver.{Solver}
 use Rattle.code.specs.Word.{root}
@@ -95,11 +95,11 @@ module _ (p : Profile) (f : Form) (r i : ℕ) (S : Series) (b : Series) where
         )
 
   pub took-clean : (t : ℕ) (s : Solver) → p .length ≤ 255 → r ≡ 0 → S ≡ O → Ready p f r S s
-      → Took p f r i S (settle t (p .length) S) b b
+      → Took p f r i S (settle (first-root p) t (p .length) S) b b
       (record { pending = false; line = record { verdict = Clean; solver = s } })
   took-clean t s hn e z h =
       let n = p .length in
-      rw (z, settle-zero t n hn) (
+      rw (z, settle-zero (first-root p) t n hn) (
         refl,
         add-none n i b ∙ ap (λ e. add n i e b) (sym (entry-none n)),
         clean-is r _ e none-changed,
@@ -110,12 +110,12 @@ module _ (p : Profile) (f : Form) (r i : ℕ) (S : Series) (b : Series) where
       none-changed = weight-word (p .length) O ∙ weight-O (p .length)
 
 -- a pattern without a change explains a row of zeros only
-pub no-change : (t n : ℕ) (S e : Series) → below (2 * t) S → Explains t n S e → weight n e ≡ 0 → S ≡ O
-no-change t n S e past x z =
+pub no-change : (h t n : ℕ) (S e : Series) → below (2 * t) S → Explains h t n S e → weight n e ≡ 0 → S ≡ O
+no-change h t n S e past x z =
     fun-ext (λ j. by-cases (decLt j (2 * t)) (low j) (λ l. past j (omega arith)) ∙ sym (O-at j))
   where
     low : (j : ℕ) → j < 2 * t → S j ≡ 𝟎
-    low j l = sym (x .syndromes j l) ∙ syndrome-is n e j ∙ value-zero n e (root j) (zero-weight n e z)
+    low j l = sym (x .syndromes j l) ∙ syndrome-is h n e j ∙ value-zero n e (root h j) (zero-weight n e z)
 
 -- ---- clean or not
 
@@ -134,12 +134,13 @@ clean-yes r b h = go (eqb r 0) refl h
 
 pub offered : (p : Profile) (f : Form) (r : ℕ) (l : List Gf) (s : Solver) (a : Attempted)
     → (eqb r 0 && holds (zero? l)) ≡ false
-    → Ready p f r (row l) s → Sound (capability p r) (p .length) (row l) (a .settled)
+    → Ready p f r (row l) s → Sound (first-root p) (capability p r) (p .length) (row l) (a .settled)
     → Ended f (rounds-of p (row l) r) (a .solver)
     → Offered p f r (row l) a
 offered p f r l s a dirty ready sound ended = record {
   count = sound .count;
   solver = ended;
   some = λ hit e z. zero-not l (clean-first r _ e ∙ dirty)
-      (no-change (capability p r) (p .length) (row l) _ (ready .past) (sound .explains hit) (sym (sound .count) ∙ z));
+      (no-change (first-root p) (capability p r) (p .length) (row l) _ (ready .past) (sound .explains hit)
+      (sym (sound .count) ∙ z));
 }

@@ -2,10 +2,9 @@
 ghost use Prim.Native.Nat.{_*_, _≤_};
 ghost use mathlib.Core.Path.{_≡_};
 ghost use Rattle.polynomial.specs.Polynomial.{row as Row};
-ghost use Rattle.profile.specs.Definition.{capability};
+ghost use Rattle.profile.specs.Definition.{capability, first-root};
 ghost use Rattle.profile.specs.Valid.{Valid};
-ghost use Rattle.settling.specs.Definition.{settle};
-ghost use Rattle.staged_decoding.specs.Definition.{rounds-of};
+ghost use Rattle.staged_decoding.specs.Definition.{settle-at, rounds-of};
 ghost use Rattle.solver.specs.ContinuationDefinition.{Ended};
 ghost use Rattle.settle.specs.Answer.{answer, Sound};
 ghost use Rattle.stages.specs.AttemptDefinition.{seen-before as SeenBefore, Ready, Tried};
@@ -49,22 +48,23 @@ fn seen_before(p: Profile, r: u8) -> u8
     seen(p, r - 1)
 }
 
-// What a solver has found is tried: of the row the first 2t syndromes count, n is the subword's length.
-fn tried(s: Solver, row: [Gf; SYNDROMES], n: usize, t: usize) -> Settled
+// What a solver has found is tried: of the row the first 2t syndromes count, n is the subword's length, and α^first is
+// the first root.
+fn tried(first: u8, s: Solver, row: [Gf; SYNDROMES], n: usize, t: usize) -> Settled
     requires { ⌜ (n ≤ 255) × (t ≤ 24) ⌝ }
-    ensures { λ a. ⌜ Tried t n (Row row) s a ⌝ }
+    ensures { λ a. ⌜ Tried first t n (Row row) s a ⌝ }
 {
     let locator = solver::continuation::locator(s);
     let length = s.length();
-    settle::settle(locator, length as usize, row, n, t)
+    settle::settle(first, locator, length as usize, row, n, t)
 }
 
 // Stage r of a subword that is not settled: the solver goes on from what it kept, and its locator is tried.
 pub fn attempt(p: Profile, r: u8, s: Solver, row: [Gf; SYNDROMES]) -> Attempted
     requires { ⌜ Valid p × (r ≤ p .nested) ⌝ }
-    ensures sound { λ a. ⌜ Sound (capability p r) (p .length) (Row row) (a .settled) ⌝ }
+    ensures sound { λ a. ⌜ Sound (first-root p) (capability p r) (p .length) (Row row) (a .settled) ⌝ }
     ensures settled { λ a. ⌜ ((f : Form) → Ready p f r (Row row) s
-        → answer (p .length) (a .settled) ≡ settle (capability p r) (p .length) (Row row)) ⌝ }
+        → answer (p .length) (a .settled) ≡ settle-at p r (Row row)) ⌝ }
     ensures solver { λ a. ⌜ ((f : Form) → Ready p f r (Row row) s → Ended f (rounds-of p (Row row) r) (a .solver)) ⌝ }
 {
     let n = p.length as usize;
@@ -72,6 +72,6 @@ pub fn attempt(p: Profile, r: u8, s: Solver, row: [Gf; SYNDROMES]) -> Attempted
     let next = solver::continuation::advance(s, seen_before(p, r), seen(p, r), row);
     Attempted {
         solver: next,
-        settled: tried(next, row, n, t),
+        settled: tried(p.first_root, next, row, n, t),
     }
 }

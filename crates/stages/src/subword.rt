@@ -10,11 +10,9 @@ ghost use Rattle.series.specs.Array.{bytes, values};
 ghost use Rattle.series.specs.Decide.{holds};
 ghost use Rattle.polynomial.specs.Polynomial.{row as Row};
 ghost use Rattle.polynomial.specs.SyndromesZero.{zero?};
-ghost use Rattle.profile.specs.Definition.{capability};
 ghost use Rattle.block.specs.Parts.{Fits};
-ghost use Rattle.settling.specs.Definition.{settle as Settle};
 ghost use Rattle.settle.specs.Answer.{answer};
-ghost use Rattle.staged_decoding.specs.Definition.{add, line-of};
+ghost use Rattle.staged_decoding.specs.Definition.{add, line-of, settle-at};
 ghost use Rattle.stages.specs.AttemptDefinition.{Ready};
 ghost use Rattle.stages.specs.Report.{verdict-of};
 ghost use Rattle.stages.specs.SubwordDefinition.{Offered, Took, Stayed};
@@ -114,7 +112,7 @@ pub fn stage(
     requires { ⌜ Fits p (now block) × (i < p .subwords) × (r ≤ p .nested) ⌝ }
     ensures settled { λ q. ⌜ (pending ≡ false → Stayed line (now (block .entry)) (now (block .exit)) q) ⌝ }
     ensures pending { λ q. ⌜ (pending ≡ true → (f : Form) → Ready p f r (Row row) (line .solver)
-        → Took p f r i (Row row) (Settle (capability p r) (p .length) (Row row)) (bytes (now (block .entry)))
+        → Took p f r i (Row row) (settle-at p r (Row row)) (bytes (now (block .entry)))
         (bytes (now (block .exit))) q) ⌝ }
 {
     if !pending {

@@ -1,11 +1,11 @@
 // Settles rows of syndromes by what the solver finds in each form, as the cases of standard input say, and prints a
 // line for each:
 //
-//     FORM | t, n | settled or failed, how many symbols change | position and change of each
+//     FORM | t, n, f | settled or failed, how many symbols change | position and change of each
 //
 // `stdout` holds the same lines from an independent model.
 //
-// A case on standard input is a byte with t, one with n, and 2t syndromes.
+// A case on standard input is a byte with t, one with n, one with f, and 2t syndromes. The first root is α^f.
 ghost use Prim.Native.Nat.{_≤_, _<_};
 ghost use lib.ListN.{length};
 use field::Gf;
@@ -33,7 +33,7 @@ fn row(syndromes: &[u8]) -> [Gf; SYNDROMES]
 }
 
 // The syndromes are one round: its entry and an iteration for each.
-fn settle(form: Form, syndromes: &[u8], n: usize, t: usize) -> Settled
+fn settle(form: Form, syndromes: &[u8], n: usize, t: usize, first: u8) -> Settled
     requires { ⌜ (length (now syndromes) ≤ 48) × (n ≤ 255) × (t ≤ 24) ⌝ }
 {
     let m = syndromes.len();
@@ -41,6 +41,7 @@ fn settle(form: Form, syndromes: &[u8], n: usize, t: usize) -> Settled
     let end = solver::rounds::run(form, syndromes, &lengths, m + 1);
     let s = end.solver;
     settle::settle(
+        first,
         solver::continuation::locator(s),
         s.length() as usize,
         row(syndromes),
@@ -86,14 +87,15 @@ fn show(line: &mut [u8], at: usize, r: Settled) {
     output::write(line, end);
 }
 
-fn one(line: &mut [u8], form: Form, syndromes: &[u8], n: usize, t: usize)
+fn one(line: &mut [u8], form: Form, syndromes: &[u8], n: usize, t: usize, first: u8)
     requires { ⌜ (length (now syndromes) ≤ 48) × (n ≤ 255) × (t ≤ 24) ⌝ }
 {
     let mut at = state::name(line, 0, form);
     at = put(line, at, b" |");
     at = print::number(line, at, t);
     at = print::number(line, at, n);
-    show(line, at, settle(form, syndromes, n, t));
+    at = print::number(line, at, index(first));
+    show(line, at, settle(form, syndromes, n, t, first));
 }
 
 // The case at a place, in each form, and where the next one is: the end, where the case is not whole.
@@ -102,23 +104,24 @@ fn next(line: &mut [u8], input: &[u8], at: usize) -> usize
     ensures { λ r. ⌜ at < r ⌝ }
 {
     let end = input.len();
-    if end - at < 2 {
+    if end - at < 3 {
         return end;
     }
     let t = index(input[at]);
     let n = index(input[at + 1]);
+    let first = input[at + 2];
     if 24 < t {
         return end;
     }
-    let a = at + 2;
+    let a = at + 3;
     let b = a + 2 * t;
     if end < b {
         return end;
     }
     let syndromes = &input[a..b];
-    one(line, Form::Plain, syndromes, n, t);
-    one(line, Form::Lookahead, syndromes, n, t);
-    one(line, Form::Scaled, syndromes, n, t);
+    one(line, Form::Plain, syndromes, n, t, first);
+    one(line, Form::Lookahead, syndromes, n, t, first);
+    one(line, Form::Scaled, syndromes, n, t, first);
     b
 }
 

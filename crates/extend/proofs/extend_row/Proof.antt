@@ -26,8 +26,14 @@ cast-n c = search needs
 cast-first : tie.Need-cast-first
 cast-first c = search needs
 
-mul-first : tie.Need-mul-first
-mul-first c = search needs
+cast-past : tie.Need-cast-past
+cast-past c = search needs
+
+mul-past : tie.Need-mul-past
+mul-past c = search needs
+
+add-past : tie.Need-add-past
+add-past c = search needs
 
 further-requires : tie.Need-further-requires
 further-requires c κs = search needs
@@ -114,7 +120,7 @@ returns-2 c =
     extended-word p (x .from) (x .to) (x .t3) _ (x .i) _ _ _
     (meets _ (at-if1 .if1 .left))
     (λ j low h.
-    left-syndrome (2 * p .t0) (p .length) _ (x .to) _ (merge .result) (residue .result) _
+    left-syndrome (first-root p) (2 * p .t0) (p .length) _ (x .to) _ (merge .result) (residue .result) _
     (omega (arith, checks-least p ok 0, checks-most p ok 0, k))
     (omega (arith, given .pre .4, k)) (omega (arith, ok .length)) long (merge .ensures) (residue .ensures)
     (c .before .at-roots .ensures) j
@@ -129,7 +135,9 @@ extend-row-spec =
     returns
     cast-n
     cast-first
-    mul-first
+    cast-past
+    mul-past
+    add-past
     further-requires
     merge-requires
     array-share-prefix-word

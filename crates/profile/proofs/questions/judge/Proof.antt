@@ -25,6 +25,9 @@ block-size-requires c κs = search needs
 data-size-requires : tie.Need-data-size-requires
 data-size-requires c κs = search needs
 
+size-requires : tie.Need-size-requires
+size-requires c κs = search needs
+
 ask-requires : tie.Need-ask-requires
 ask-requires c κs = search needs
 
@@ -95,7 +98,7 @@ returns c =
     let asked3 = asked4 .before .before in
     let asked2 = asked3 .before .before in
     let asked1 = asked2 .before .before in
-    let payload = asked1 .before in
+    let payload = asked1 .before .before in
     let block = payload .before in
     let extract = block .before in
     let fetch = extract .before in
@@ -106,13 +109,13 @@ returns c =
     let d = decode .decodes .ensures in
     let f = fetch .fetches .ensures in
     let x = extract .extracts .ensures in
-    let size = block .block-size .ensures in
+    let symbols = block .block-size .ensures in
     let data-size = payload .data-size .ensures in
     let l = given .l in
     next _ (c .ask12 .ensures) f refl
     (next _ (asked11 .ask11 .ensures) x (ap (eqb (l .output)) data-size)
-    (next _ (asked10 .ask10 .ensures) (ap₂ _||_ e d) (ap (eqb (l .output)) size)
-    (next _ (asked9 .ask9 .ensures) (ap₂ _||_ (ap₂ _||_ d f) x) (ap (eqb (l .input)) size)
+    (next _ (asked10 .ask10 .ensures) (ap₂ _||_ e d) (ap (eqb (l .output)) symbols)
+    (next _ (asked9 .ask9 .ensures) (ap₂ _||_ (ap₂ _||_ d f) x) (ap (eqb (l .input)) symbols)
     (next _ (asked8 .ask8 .ensures) e (ap (eqb (l .input)) data-size)
     (next _ (asked7 .ask7 .ensures) refl (asked7 .before .root .ensures)
     (next _ (asked6 .ask6 .ensures) refl (asked6 .before .length .ensures)
@@ -120,7 +123,7 @@ returns c =
     (next _ (asked4 .ask4 .ensures) refl (asked4 .before .capabilities .ensures)
     (next _ (asked3 .ask3 .ensures) refl (asked3 .before .nested .ensures)
     (next _ (asked2 .ask2 .ensures) refl (asked2 .before .subwords .ensures)
-    (asked1 .ask .ensures)))))))))))
+    (next _ (asked1 .ask .ensures) refl (asked1 .before .size .ensures) refl)))))))))))
     ∙ sym (asked-in-order (given .caller) l (given .p))
 
 pub judge-spec : {M : Type 1} → statement M
@@ -133,6 +136,7 @@ judge-spec =
     extracts-requires
     block-size-requires
     data-size-requires
+    size-requires
     ask-requires
     subwords-requires
     ask-requires-2

@@ -14,7 +14,7 @@ use Rattle.settle.proofs.check.effect_of.Tie as tie
 
 abbrev Inv-loop : tie.InvT-loop
 Inv-loop n m pattern power syndromes₀ count₀ p₀ syndromes count p = (p ≤ n) × (length syndromes ≡ 48)
-    × (count ≡ weight p (values pattern)) × (bytes syndromes ≡ cut m (syndrome p (values pattern)))
+    × (count ≡ weight p (values pattern)) × (bytes syndromes ≡ cut m (syndrome 1 p (values pattern)))
 
 abbrev μ-loop : tie.MeasureT-loop
 μ-loop n m pattern power syndromes₀ count₀ p₀ syndromes count p = n - p

@@ -6,8 +6,8 @@ use Rattle.field.specs.Field.{𝟏, val, pow}
 use Rattle.series.specs.Degree.{below, below-cut}
 use Rattle.series.specs.Value.{value}
 use Rattle.kernel.specs.ProductRow.{row-products, factor-products}
-use Rattle.settling.specs.Locator.{W, W-is}
-use Rattle.settle.specs.PositionsTerm.{W-nonzero, terms, below-terms, terms-first, terms-add}
+use Rattle.settling.specs.Locator.{W, W-is, W-nonzero}
+use Rattle.settle.specs.PositionsTerm.{terms, below-terms, terms-first, terms-add}
 use Rattle.settle.specs.PositionsExponent.{symbols, steps-terms}
 use Rattle.settle.specs.PositionsThird.{three, value-three, cube-zero, cube-one, cube-two, Placed}
 use Rattle.settle.specs.PositionsThird.{placed-none, placed-more, placed-all}
