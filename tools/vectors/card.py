@@ -1,6 +1,6 @@
 """test_card: the model's cards of seed 7, FORMAT's sample card cut at every byte and followed by one byte too many, and
-a card of hundreds of blocks, whole, cut in its last block and followed by one byte too many, and cards without a
-profile. The lists are what the model's card program prints."""
+a card of hundreds of blocks, whole, cut in its last block and followed by one byte too many, cards without a profile
+and cards whose profile has eight bytes. The lists are what the model's card program prints."""
 import random
 
 import cases
@@ -42,12 +42,42 @@ def no_profile_cards():
     return cut + [one, one + b'\0', bytes([0, 0, 0]), bytes([0, 0, 0, 7]), bytes([0, 0, 2]) + block + changed]
 
 
+def damaged(rng, profile, counts):
+    """The profile's section and the number of blocks, and a block for each count, which has so many changes."""
+    _, p = gii.read_profile(profile, LANDED)
+    card = bytes([len(profile)]) + profile + number(len(counts))
+    for count in counts:
+        block = bytearray(gii.write_triangular(p, bytes(rng.randrange(256) for _ in range(p.data_size))))
+        for place in rng.sample(range(p.size), count):
+            block[place] ^= rng.randint(1, 255)
+        card += block
+    return card
+
+
+def first_root_cards():
+    """Cards whose first byte is 8: one cut at every byte; each first root, cut and with a byte too many too; refused
+    ones, with another fault beside the eighth byte; and cards whose first byte is 9, or more."""
+    rng = random.Random('card with a first root/7')
+    whole = damaged(rng, PROFILE + bytes([0]), (0, 2, 3))
+    every = [whole[:k] for k in range(1, len(whole) + 1)] + [whole + b'\0']
+    for f in 0, 1, 2, 127, 254:
+        card = damaged(rng, PROFILE + bytes([f]), (0, 1, 1, 2, 2, 3, 3, 4, 5))
+        every += [card, card[:-1], card + b'\0']
+    card = damaged(rng, bytes([3, 2, 12, 1, 2, 2, 0, 2]), (0, 3, 4))                 # equal strengths are read
+    every += [card, damaged(rng, bytes([8, 3, 255, 14, 16, 18, 24, 254]), (0, 90))]
+    for profile in [2, 1, 5, 1, 2, 0, 0], [9, 1, 5, 1, 2, 0, 0], [2, 2, 5, 1, 2, 2, 0], [2, 1, 5, 2, 2, 0, 0], \
+            [2, 1, 4, 1, 2, 0, 0]:
+        refused = bytes([8] + profile + [255])
+        every += [refused[:-1], refused, refused + whole[9:]]
+    return every + [bytes([9]), bytes([9]) + whole[1:], bytes([9]) + PROFILE + bytes([0, 0, 0, 0]), bytes([255])]
+
+
 def make():
     with stored(cases.cards) as folder:
         cards = {path.stem: path.read_bytes() for path in sorted((folder / 'cards').glob('*.bin'))}
     sample = cards['sample']
     every = list(cards.values()) + [sample[:k] for k in range(len(sample))] + [sample + b'\0'] + long_cards()
-    every += no_profile_cards()
+    every += no_profile_cards() + first_root_cards()
     stdin = number(len(every)) + b''.join(sized(card) for card in every)
     stdout = ''.join('card of %d\n' % len(card) + gii.card_program(card, LANDED) for card in every)
     return {'stdin': stdin, 'stdout': stdout.encode()}

@@ -4,7 +4,7 @@ import random
 
 import cases
 import gii
-from .common import LANDED, number, numbers, rows, sized, spaced, stored, text, wanted
+from .common import EARLIER, FIRST_ROOT, LANDED, number, numbers, rows, sized, spaced, stored, text
 
 PROFILE, WRITE, FETCH, DATA = 0, 1, 2, 3
 SAMPLE = bytes([2, 1, 5, 1, 2, 0, 0])
@@ -62,31 +62,42 @@ def samples(c):
     c.write(SAMPLE, bytes([0, 1, 0, 0]), 10)
 
 
-def model_cases(c, some):
-    """The model's profiles, writes and fetches, and its strips, which are blocks of one subword."""
-    with stored(cases.profiles, cases.writer, cases.fetches, cases.rs_strips) as folder:
-        profiles = [profile for as_of, _, profile, _, _ in rows(folder / 'profiles.txt') if wanted(as_of)]
-        for profile in dict.fromkeys(profiles):
-            c.profile(bytes(numbers(profile)))
-        for as_of, profile, data, size, _, _ in rows(folder / 'writer.txt'):
-            if wanted(as_of):
-                c.write(bytes(numbers(profile)), bytes(numbers(data)), int(size))
-        for as_of, profile, size, i, _, _, _ in rows(folder / 'fetch.txt'):
-            if wanted(as_of):
-                c.fetch(bytes(numbers(profile)), some(int(size)), int(i))
-        for t, n, f, data, strip in rows(folder / 'rs_strips.txt'):
-            if f == '1':
-                block = c.write(bytes([1, 0, int(n), int(t), 0, 0, 0]), bytes(numbers(data)), int(n))
-                assert block == bytes(numbers(strip))
+def model_profiles(folder, made_for, callers):
+    """The profiles that the model judges for these callers, each once, without those of an earlier group."""
+    def of(group):
+        return dict.fromkeys(profile for as_of, caller, profile, _, _ in rows(folder / 'profiles.txt')
+                             if as_of in group and caller in callers)
+
+    had = () if made_for == EARLIER else of(EARLIER)
+    return [bytes(numbers(profile)) for profile in of(made_for) if profile not in had]
 
 
-def model_writers(c):
+def model_cases(c, folder, made_for, some):
+    """The model's profiles, writes and fetches."""
+    for profile in model_profiles(folder, made_for, '01'):
+        c.profile(profile)
+    for as_of, profile, data, size, _, _ in rows(folder / 'writer.txt'):
+        if as_of in made_for:
+            c.write(bytes(numbers(profile)), bytes(numbers(data)), int(size))
+    for as_of, profile, size, i, _, _, _ in rows(folder / 'fetch.txt'):
+        if as_of in made_for:
+            c.fetch(bytes(numbers(profile)), some(int(size)), int(i))
+
+
+def model_strips(c, folder, seven):
+    """The model's strips, which are blocks of one subword: of the first root alpha, whose profiles have seven bytes, or
+    of the others."""
+    for t, n, f, data, strip in rows(folder / 'rs_strips.txt'):
+        if (f == '1') == seven:
+            profile = bytes([1, 0, int(n), int(t), 0, 0, 0] + ([] if seven else [int(f)]))
+            block = c.write(profile, bytes(numbers(data)), int(n))
+            assert block == bytes(numbers(strip))
+
+
+def model_writers(c, folder, made_for):
     """The profiles that the model's writer judges, with nothing else lent."""
-    with stored(cases.profiles) as folder:
-        profiles = [profile for as_of, writes, profile, _, _ in rows(folder / 'profiles.txt')
-                    if wanted(as_of) and writes == '1']
-        for profile in dict.fromkeys(profiles):
-            c.write(bytes(numbers(profile)), b'', 0)
+    for profile in model_profiles(folder, made_for, '1'):
+        c.write(profile, b'', 0)
 
 
 def profile_of(m, v, n, t):
@@ -264,22 +275,107 @@ def no_profile(c, rng, some):
     assert numbers_seen == {0, 6, 7, 8}, numbers_seen
 
 
+def first_roots(c, rng, some):
+    """Profiles of eight bytes, for every caller: each first root in several shapes, sizes that are right and wrong,
+    subwords that are there and not, blocks with few and with many changes. An eighth byte of 1 is answered as the seven
+    bytes alone are, and one of 255 is refused."""
+    def written(profile, p, given, counts):
+        """The block, which is also read with so many changes in a subword."""
+        block = c.write(profile, given, p.size)
+        if block and p.size < 60:
+            assert block == gii.write_linear(gii.read_profile(profile, LANDED)[1], given)
+        for count in counts:
+            received = bytearray(block or some(p.size))
+            i = rng.randrange(p.m)
+            for k in rng.sample(range(p.n), min(count, p.n)):
+                received[i * p.n + k] ^= rng.randint(1, 255)
+            refusal, out = c.data(profile, received, p.data_size)
+            assert out == given or refusal == 14 or count > p.t[0]
+            numbers_seen.add(refusal)
+        return block
+
+    def sizes(profile, p):
+        c.profile(profile)
+        for k, size in (p.data_size - 1, p.size), (p.data_size, p.size - 1), (0, 0):
+            c.write(profile, some(k), size)
+        for size, i in (p.size, 0), (p.size, p.m - 1), (p.size, p.m), (p.size - 1, p.m):
+            c.fetch(profile, some(size), i)
+        for size, room in (p.size - 1, p.data_size), (p.size, p.data_size - 1), (0, 0):
+            numbers_seen.add(c.data(profile, some(size), room)[0])
+
+    numbers_seen = set()
+    for m, v, n, t in (1, 0, 3, (1,)), (1, 0, 60, (24,)), (2, 1, 5, (1, 2)), (2, 1, 26, (1, 2)), (3, 2, 9, (1, 2, 3)), \
+            (4, 3, 13, (1, 2, 3, 6)), (8, 3, 18, (2, 4, 6, 8)):
+        seven = profile_of(m, v, n, t)
+        p = gii.read_profile(seven, LANDED)[1]
+        for f in 0, 1, 2, 127, 254, 255:
+            given = some(p.data_size)
+            block = written(seven + bytes([f]), p, given, (0, t[0], t[0] + 1, t[v], t[v] + 1) if f < 255 else (0,))
+            assert (block is None) == (f == 255)
+            assert f != 1 or written(seven, p, given, (0, t[v])) == block
+            if p.size < 60:
+                sizes(seven + bytes([f]), p)
+    for f, n, t in (0, 255, (14, 16, 18, 24)), (2, 49, (21, 22, 23, 24)), (127, 255, (1, 22, 23, 24)), \
+            (254, 255, (14, 16, 18, 24)):
+        profile = profile_of(8, 3, n, t) + bytes([f])
+        p = gii.read_profile(profile, LANDED)[1]
+        c.profile(profile)
+        written(profile, p, some(p.data_size), (t[3],))
+    while 9 not in numbers_seen:
+        profile = profile_of(2, 1, 26, (1, 2)) + bytes([rng.choice([0, 2, 127, 254])])
+        p = gii.read_profile(profile, LANDED)[1]
+        block = bytearray(gii.write(profile, some(p.data_size), p.size, LANDED)[1])
+        for k in rng.sample(range(p.size), 4):
+            block[k] ^= rng.randint(1, 255)
+        numbers_seen.add(c.data(profile, block, p.data_size)[0])
+    assert numbers_seen == {0, 6, 7, 8, 9, 14}, numbers_seen
+
+
+def first_root_refusals(c, some):
+    """Profiles of eight bytes and of other lengths, at fault for one question and for two: each caller's first no."""
+    profiles = [(SAMPLE + bytes([254, 255, 0]))[:size] for size in range(11)]
+    profiles += [SAMPLE + bytes([255, 0]), SAMPLE + bytes([255, 255]), SAMPLE + SAMPLE]                            # 1
+    for f in 0, 254, 255:
+        for seven in [0, 1, 5, 1, 2, 0, 0], [9, 1, 5, 1, 2, 0, 0], [2, 2, 5, 1, 2, 2, 0], [2, 4, 5, 1, 2, 0, 0], \
+                [2, 1, 5, 2, 2, 0, 0], [2, 1, 5, 1, 2, 1, 0], [2, 1, 4, 1, 25, 0, 0], [3, 2, 4, 1, 2, 2, 0], \
+                [3, 2, 5, 1, 2, 2, 0], [2, 1, 4, 1, 2, 0, 0], [2, 1, 0, 1, 2, 0, 0], [2, 1, 5, 1, 2, 0, 0]:
+            profiles.append(bytes(seven + [f]))
+    for profile in profiles:
+        c.profile(profile)
+        for k, size in (4, 10), (3, 10), (4, 9), (0, 0):
+            c.write(profile, some(k), size)
+        for size, i in (10, 0), (15, 2), (9, 1), (10, 2):
+            c.fetch(profile, some(size), i)
+        for size, room in (10, 4), (15, 5), (9, 4), (10, 3):
+            c.data(profile, some(size), room)
+
+
+def bytes_of(rng):
+    """What gives so many bytes, from a generator."""
+    return lambda k: bytes(rng.randrange(256) for _ in range(k))
+
+
 def make():
     c = Cases()
     rng = random.Random('code_vectors/1')
-
-    def some(k):
-        """So many bytes."""
-        return bytes(rng.randrange(256) for _ in range(k))
-
-    samples(c)
-    model_cases(c, some)
-    edges(c)
-    every_shape(c, rng, some)
-    random_writes(c, rng, some)
-    refusals(c, some)
-    data_cases(c, random.Random('code_vectors/data'), some)
-    no_profile(c, random.Random('code_vectors/no profile'), some)
-    model_writers(c)
-    equal_strengths(c, random.Random('code_vectors/equal strengths'), some)
+    some = bytes_of(rng)
+    with stored(cases.profiles, cases.writer, cases.fetches, cases.rs_strips) as folder:
+        samples(c)
+        model_cases(c, folder, EARLIER, some)
+        model_strips(c, folder, True)
+        edges(c)
+        every_shape(c, rng, some)
+        random_writes(c, rng, some)
+        refusals(c, some)
+        data_cases(c, random.Random('code_vectors/data'), some)
+        no_profile(c, random.Random('code_vectors/no profile'), some)
+        model_writers(c, folder, EARLIER)
+        equal_strengths(c, random.Random('code_vectors/equal strengths'), some)
+        rng = random.Random('code_vectors/first roots')
+        some = bytes_of(rng)
+        model_cases(c, folder, FIRST_ROOT, some)
+        model_strips(c, folder, False)
+        model_writers(c, folder, FIRST_ROOT)
+        first_roots(c, rng, some)
+        first_root_refusals(c, some)
     return {'stdin': number(len(c.bytes)) + b''.join(c.bytes), 'stdout': text(c.lines)}

@@ -8,7 +8,10 @@ import tempfile
 import cases
 import gii
 
-LANDED = gii.Rules(requests={2, 7})     # the requests that have landed: all answers are judged with just these
+LANDED = gii.Rules(requests={2, 5, 7})  # the requests that have landed: all answers are judged with just these
+# Which of the model's cases are taken, by the request that they were made for, 0 being the base. The second group comes
+# later, so that stored cases keep their place.
+EARLIER, FIRST_ROOT = ('0', '2', '7'), ('5',)
 FORMS = {'plain': 'plain', 'ahead': 'lookahead', 'scaled': 'scaled'}     # the model's names of the forms, and ours
 LOOKAHEAD_HELD = ('gamma_S', 'delta_S', 'theta_S', 'g1', 'g2', 'h1', 'h2')
 SCALED_HELD = ('g', 'rho', 'xi', 'rho_S', 'xi_S')
@@ -22,11 +25,6 @@ def stored(*kinds):
         with contextlib.redirect_stdout(io.StringIO()):
             cases.make(7, folder, kinds, LANDED)
         yield pathlib.Path(folder)
-
-
-def wanted(as_of):
-    """Whether a case that was made for this request is one of the base, or of a request that has landed."""
-    return as_of == '0' or LANDED.has(int(as_of))
 
 
 def rows(path):

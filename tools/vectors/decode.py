@@ -14,7 +14,8 @@ import tempfile
 
 import cases
 import gii
-from .common import FORMS, HELD, LANDED, number, numbers, rows, sized, spaced, stored, text, trimmed, wanted
+from .common import EARLIER, FIRST_ROOT, FORMS, HELD, LANDED, number, numbers, rows, sized, spaced, stored, text, \
+    trimmed
 
 
 # ---- what is expected: (number, stage, last, changed, lines, block)
@@ -70,7 +71,7 @@ class Cases:
                 self.lines.append('state %d%s' % (i, ''.join(' |' + spaced(f) for f in states[form][i])))
 
     def read(self, profile, block, size=None, states=False):
-        """A case that the model answers."""
+        """A case that the model answers, and its answer."""
         profile, block = bytes(profile), bytes(block)
         size = len(block) if size is None else size
         read = model(profile, block, size)
@@ -80,14 +81,15 @@ class Cases:
             of = {form: {i: state_fields(form, 2 * t[line[2]], a.states[i])
                          for i, line in enumerate(a.lines) if line[0] != 'clean'} for form, a in read.items()}
         self.add(profile, block, size, answer(read['plain']), of)
+        return answer(read['plain'])
 
 
 # ---- the model's cases
 
-def model_readings(c, folder):
+def model_readings(c, folder, made_for):
     for row in rows(folder / 'reader.txt'):
         as_of, profile, marks, size, block, refused, stage, last, changed, _, said, _, mended = row
-        if not wanted(as_of) or marks != '-':
+        if as_of not in made_for or marks != '-':
             continue
         profile, block, size = bytes(numbers(profile)), bytes(numbers(block)), int(size)
         if refused == '0':
@@ -132,7 +134,7 @@ def change(rng, p, block, counts):
 
 def small_word(p, pattern, t):
     """A word of n symbols, zero but for its first 2t, with the syndromes j < 2t of a pattern, wherever it reaches."""
-    return gii.fill_checks(p, bytes(p.n), 2 * t, [gii.pattern_syndrome(pattern, j, 1) for j in range(2 * t)])
+    return gii.fill_checks(p, bytes(p.n), 2 * t, [gii.pattern_syndrome(pattern, j, p.f) for j in range(2 * t)])
 
 
 def added(p, block, i, word):
@@ -152,7 +154,8 @@ def samples(c, rng):
 
 
 def questions(c, rng):
-    """Blocks that are refused by each of the questions 1 to 7, some of them at fault for later ones too."""
+    """Blocks that are refused by each of the questions 1 to 7, some of them at fault for later ones too. The eighth
+    bytes 0 and 1 are first roots, and no fault."""
     good = [2, 1, 5, 1, 2, 0, 0]
     for profile in [2], [2, 1, 5, 1, 2, 0], good + [0], good + [1], good + good, [9] * 6, [0] * 20:              # 1
         for k, size in (10, 10), (0, 0), (10, 9):
@@ -204,7 +207,7 @@ def placed(rng, p, worst):
     return counts
 
 
-def ending(c, rng, profile, r):
+def ending(c, rng, profile, r, states=True):
     """Accepted with last stage r: v - r + 1 subwords wait for it, or settle before."""
     p, w = codeword(rng, profile)
     worst = []
@@ -213,14 +216,14 @@ def ending(c, rng, profile, r):
         worst.append(rng.randint(min(p.t[s - 1] + 1, p.t[s]) if s else 0, p.t[s]))
     if worst and r:
         worst[0] = p.t[r]
-    c.read(profile, change(rng, p, w, placed(rng, p, worst)), states=True)
+    return c.read(profile, change(rng, p, w, placed(rng, p, worst)), states=states)
 
 
 def failing(c, rng, profile, r):
     """8 after stage r: v - r + 1 subwords have more than t_r changes."""
     p, w = codeword(rng, profile)
     worst = [p.t[r] + rng.randint(1, 2) for _ in range(p.v - r + 1)]
-    c.read(profile, change(rng, p, w, placed(rng, p, worst)))
+    return c.read(profile, change(rng, p, w, placed(rng, p, worst)))
 
 
 def wrong(c, rng, profile):
@@ -229,7 +232,7 @@ def wrong(c, rng, profile):
     i = rng.randrange(p.m)
     start = bytes(rng.randrange(256) if q == p.n - 1 or rng.random() < .3 else 0 for q in range(p.n))
     word = gii.fill_checks(p, start, 2 * p.t[0], [0] * (2 * p.t[0]))
-    c.read(profile, change(rng, p, added(p, w, i, word), placed(rng, p, [])))
+    return c.read(profile, change(rng, p, added(p, w, i, word), placed(rng, p, [])))
 
 
 def beyond(c, rng, profile):
@@ -239,7 +242,7 @@ def beyond(c, rng, profile):
     few = rng.randint(1, min(t, 255 - p.n))
     pattern = [(q, rng.randint(1, 255)) for q in rng.sample(range(p.n), t - few)]
     pattern += [(q, rng.randint(1, 255)) for q in rng.sample(range(p.n, 255), few)]
-    c.read(profile, added(p, w, rng.randrange(p.m), small_word(p, pattern, t)), states=True)
+    return c.read(profile, added(p, w, rng.randrange(p.m), small_word(p, pattern, t)), states=True)
 
 
 def made(c, rng):
@@ -273,6 +276,55 @@ def no_profile(c, rng):
         c.read(b'', w, size)
 
 
+ROOTS = ([1, 0, 3, 1, 0, 0, 0], [3, 0, 12, 2, 0, 0, 0], [2, 1, 26, 1, 2, 0, 0], [5, 2, 30, 4, 6, 9, 0],
+         [4, 3, 20, 1, 2, 3, 4], [4, 3, 12, 1, 2, 2, 4])
+
+
+def first_roots(c, rng):
+    """Profiles of eight bytes. With each first root: readings that end after each stage, a subword settled wrongly,
+    roots past the last position, and the two changes that are settled wrongly at the first root alpha."""
+    for f in 0, 2, 127, 254, 1:
+        outcomes = [c.read([2, 1, 26, 1, 2, 0, 0, f], [1, 1] + [0] * 50, states=True)]
+        for seven in ROOTS:
+            profile = seven + [f]
+            p, w = codeword(rng, profile)
+            outcomes.append(c.read(profile, w))
+            for r in range(p.v + 1):
+                outcomes.append(ending(c, rng, profile, r, p.n < 30))
+                outcomes.append(failing(c, rng, profile, r))
+            outcomes.append(beyond(c, rng, profile))
+            while p.v and wrong(c, rng, profile)[0] != 9:
+                pass
+        ends = {(refused, stage if refused else last) for refused, stage, last, *_ in outcomes}
+        assert ends >= {(0, r) for r in range(4)} | {(8, r) for r in range(4)}, ends
+    large = [8, 3, 255, 14, 16, 18, 24]
+    for seven, f, r in (large, 0, 3), (large, 254, 3), ([8, 3, 49, 21, 22, 23, 24], 127, 2), \
+            ([1, 0, 255, 24, 0, 0, 0], 254, 0), ([2, 1, 255, 23, 24, 0, 0], 2, 1):
+        ending(c, rng, seven + [f], r, seven[0] < 8)
+        failing(c, rng, seven + [f], r)
+
+
+def first_root_questions(c, rng):
+    """An eighth byte of 1, which is answered as the seven bytes alone are, and one of 255, with blocks and sizes that
+    are right and wrong; profiles that an earlier question refuses too."""
+    for seven in [2, 1, 5, 1, 2, 0, 0], [4, 3, 20, 1, 2, 3, 4], [3, 2, 12, 1, 2, 2, 0]:
+        p, w = codeword(rng, seven)
+        for count in range(p.tv + 2):
+            block = change(rng, p, w, placed(rng, p, [count]))
+            assert c.read(seven + [1], block, states=True) == c.read(seven, block)
+            c.read(seven + [255], block)
+        for block, size in (w[:-1], p.size), (w, p.size - 1), (w[:-1], p.size - 1), (b'', 0):
+            for f in 1, 254, 255:
+                c.read(seven + [f], block, size)
+    for seven in [9, 1, 5, 1, 2, 0, 0], [2, 2, 5, 1, 2, 2, 0], [2, 1, 5, 2, 2, 0, 0], [2, 1, 4, 1, 2, 0, 0], \
+            [3, 2, 4, 1, 2, 2, 0]:
+        for f in 0, 255:
+            c.read(seven + [f], bytes(seven[0] * seven[2]))
+            c.read(seven + [f], bytes(3), 4)
+    for more in range(1, 4):
+        c.read([2, 1, 5, 1, 2, 0, 0] + [255] * more, bytes(10))
+
+
 # ---- libfec's strips
 
 def libfec_strips():
@@ -288,8 +340,9 @@ def libfec_strips():
 def strips(c, lines):
     for line in lines:
         head, received, back = line.split(' | ')
-        t, n = numbers(head)
-        profile, received, back = bytes([1, 0, n, t, 0, 0, 0]), bytes(numbers(received)), bytes(numbers(back))
+        t, n, f = numbers(head)
+        profile = bytes([1, 0, n, t, 0, 0, 0] + ([] if f == 1 else [f]))
+        received, back = bytes(numbers(received)), bytes(numbers(back))
         changed = sum(x != y for x, y in zip(received, back))
         expected = (0, None, 0, changed, ['M%d/0' % changed if changed else 'C'], back) if back else refusal(8, 0)
         assert answer(model(profile, received, n)['plain']) == expected
@@ -303,9 +356,12 @@ def make():
     samples(c, rng)
     questions(c, rng)
     with stored(cases.reader, cases.report_states) as folder:
-        model_readings(c, folder)
+        model_readings(c, folder, EARLIER)
         model_states(c, folder)
-    made(c, rng)
-    no_profile(c, random.Random('decode_vectors/no profile'))
+        made(c, rng)
+        no_profile(c, random.Random('decode_vectors/no profile'))
+        model_readings(c, folder, FIRST_ROOT)
+    first_roots(c, random.Random('decode_vectors/first roots'))
+    first_root_questions(c, random.Random('decode_vectors/first root questions'))
     strips(c, lines)
     return {'stdin': number(len(c.bytes)) + b''.join(c.bytes), 'stdout': text(c.lines)}

@@ -1,5 +1,6 @@
-"""test_settle: rows of syndromes, settled by the model. The first rows are the model's of seed 7, the others are made
-here from a fixed generator. The expected lines are the model's, by linear algebra, and its three solvers agree."""
+"""test_settle: rows of syndromes, settled by the model. Rows with the first root alpha come first, then rows with
+others. Of each, some are the model's of seed 7, and some are made here from a fixed generator. The expected lines are
+the model's, by linear algebra, and its three solvers agree."""
 import itertools
 import random
 
@@ -9,29 +10,25 @@ from .common import FORMS, numbers, rows, spaced, stored, text
 
 
 class Cases:
-    """Rows to settle: t, n and 2t syndromes, each once."""
+    """Rows to settle: t, n, f and 2t syndromes, each once. The first root is alpha^f."""
 
     def __init__(self):
         self.rows = {}
 
-    def add(self, t, n, syndromes):
+    def add(self, t, n, syndromes, f=1):
         assert len(syndromes) == 2 * t
-        self.rows[t, n, bytes(syndromes)] = True
+        self.rows[t, n, f, bytes(syndromes)] = True
 
-    def add_pattern(self, t, n, pattern):
-        self.add(t, n, syndromes_of(pattern, t))
-
-
-def syndromes_of(pattern, t):
-    return [gii.pattern_syndrome(pattern, j, 1) for j in range(2 * t)]
+    def add_pattern(self, t, n, pattern, f=1):
+        self.add(t, n, [gii.pattern_syndrome(pattern, j, f) for j in range(2 * t)], f)
 
 
-def model_rows(c):
-    """The model's rows without marks, at the first root alpha."""
+def model_rows(c, alpha):
+    """The model's rows without marks, at the first root alpha or at the others."""
     with stored(cases.settle) as folder:
         for t, n, f, marks, syndromes, _, _ in rows(folder / 'settle.txt'):
-            if f == '1' and marks == '-':
-                c.add(int(t), int(n), numbers(syndromes))
+            if (f == '1') == alpha and marks == '-':
+                c.add(int(t), int(n), numbers(syndromes), int(f))
 
 
 def small(c):
@@ -53,8 +50,8 @@ def small(c):
 class Random:
     """The generator, and what it is asked for."""
 
-    def __init__(self):
-        self.rng = random.Random(20)
+    def __init__(self, seed):
+        self.rng = random.Random(seed)
 
     def value(self):
         return self.rng.randint(1, 255)
@@ -161,18 +158,64 @@ def even(c, r):
         c.add_pattern(d - 1, 255, pattern)
 
 
-def lines_of(t, n, syndromes):
-    pattern = gii.settle_peterson(list(syndromes), t, n)
+FIRST_ROOTS = 0, 2, 127, 254
+
+
+def few(c):
+    """Small t and n, also such as no profile has, and FORMAT's sample rows, with each other first root."""
+    for f in FIRST_ROOTS:
+        c.add(0, 0, [], f)
+        c.add(1, 0, [0, 0], f)
+        c.add(1, 0, [1, 1], f)
+        for n in 1, 3:
+            for syndromes in (0, 0), (0, 1), (1, 0), (1, 1), (1, 2):
+                c.add(1, n, syndromes, f)
+        for n in 26, 25:
+            c.add(1, n, [3, 5], f)
+        c.add(2, 26, [3, 5, 9, 17], f)
+
+
+def other_roots(c, r, t):
+    """Patterns of at most t changes, settled but where n is too small for them, and of more. The first roots turn with
+    t, so that each kind has each of them."""
+    f = [FIRST_ROOTS[(t + q) % 4] for q in range(4)]
+    pattern = r.pattern(r.length(t), t)
+    last = max(p for p, _ in pattern)
+    c.add_pattern(t, last + 1, pattern, f[0])
+    c.add_pattern(t, last, pattern, f[0])
+    c.add_pattern(t, 255, r.pattern(255, t + 1), f[1])
+    c.add_pattern(t, 255, [(p, r.value()) for p in ((0, 254) if t > 1 else (254,))], f[2])
+    if t % 3 == 1:
+        c.add_pattern(t, 2 * t + 1, [(r.rng.randrange(2 * t + 1), r.value())], f[3])
+
+
+def settled_small(c, r):
+    """Patterns of one to t changes, with each other first root."""
+    for t in range(1, 5):
+        for f in FIRST_ROOTS:
+            n = r.length(t)
+            c.add_pattern(t, n, r.pattern(n, r.rng.randint(1, t)), f)
+            c.add_pattern(t, n, [(0, r.value())], f)
+
+
+def twisted(pattern, f):
+    """The changes that have at the first root alpha the syndromes which these have at alpha^f."""
+    return pattern and tuple((p, gii.mul(y, gii.alpha_pow(p * (f - 1)))) for p, y in pattern)
+
+
+def lines_of(t, n, f, syndromes):
+    pattern = gii.settle_peterson(list(syndromes), t, n, f)
+    assert twisted(pattern, f) == gii.settle_peterson(list(syndromes), t, n)
     found = 'failed 0' if pattern is None else 'settled %d' % len(pattern)
     changes = spaced(x for change in pattern or () for x in change)
     for form, name in FORMS.items():
-        assert gii.settle_run(gii.run_rounds(form, [syndromes]), syndromes, t, n) == pattern
-        yield '%s | %d %d | %s |%s' % (name, t, n, found, changes)
+        assert gii.settle_run(gii.run_rounds(form, [syndromes]), syndromes, t, n, f) == pattern
+        yield '%s | %d %d %d | %s |%s' % (name, t, n, f, found, changes)
 
 
 def make():
-    c, r = Cases(), Random()
-    model_rows(c)
+    c, r = Cases(), Random(20)
+    model_rows(c, True)
     small(c)
     for t in range(1, 25):
         within(c, r, t)
@@ -182,5 +225,11 @@ def make():
             odd_locators(c, r, t)
         single(c, r, t)
     even(c, r)
-    return {'stdin': b''.join(bytes([t, n]) + syndromes for t, n, syndromes in c.rows),
+    model_rows(c, False)
+    few(c)
+    r = Random('settle_vectors/first roots')
+    for t in range(1, 25):
+        other_roots(c, r, t)
+    settled_small(c, r)
+    return {'stdin': b''.join(bytes([t, n, f]) + syndromes for t, n, f, syndromes in c.rows),
             'stdout': text(line for row in c.rows for line in lines_of(*row))}
