@@ -18,7 +18,8 @@
  *
  * The seven bytes of a profile are m (how many strips), v (how many nested sums), n (bytes of a strip) and t0, t1, t2,
  * t3 (strengths). A block has m x n bytes, its strips one after the other; each strip begins with its check bytes, and
- * its other bytes are data. At stage r of reading a strip with at most t_r changed bytes is mended. A profile of 0
+ * its other bytes are data. At stage r of reading a strip with at most t_r changed bytes is mended. There may be an
+ * eighth byte f, from 0 to 254: the roots of the codes begin with alpha^f. Seven bytes mean f = 1. A profile of 0
  * bytes, whose pointer may be NULL, stands for 8 3 255 14 16 18 24: 1784 data bytes in a block of 2040.
  */
 #ifndef GII_H
@@ -34,7 +35,10 @@ extern "C" {
 /* The version of this interface. Within it names, numbers and sizes are only ever added, and a report only grows. */
 #define GII_VERSION 1
 
-/* The bytes of a profile that is not left out and of a report, and the most bytes of a block and of its data. */
+/*
+ * The bytes of a profile that is not left out (one more with the eighth byte) and of a report, and the most bytes of a
+ * block and of its data.
+ */
 enum {
     GII_PROFILE_BYTES = 7,
     GII_REPORT_BYTES = 27,
@@ -48,12 +52,13 @@ enum {
  */
 enum {
     GII_OK = 0,                 /* every question was answered by yes */
-    GII_E_PROFILE_BYTES = 1,    /* has the profile seven bytes, or none? */
+    GII_E_PROFILE_BYTES = 1,    /* has the profile seven bytes, or eight, or none? */
     GII_E_STRIPS = 2,           /* is m at least 1 and at most 8? */
     GII_E_NESTED = 3,           /* is v at most 3, and less than m? */
     GII_E_STRENGTHS = 4,        /* are the strengths in order: 1 <= t0 < t1 <= .. <= tv <= 24, and 0 after tv? */
     GII_E_EQUAL_STRENGTHS = 15, /* do the strengths rise: t1 < .. < tv? gii_encode */
     GII_E_LENGTH = 5,           /* is n greater than 2 x tv? */
+    GII_E_FIRST_ROOT = 14,      /* is f, if there is an eighth byte, at most 254? */
     GII_E_INPUT_BYTES = 6,      /* has the input the size of the data (gii_encode) or of a block (all others)? */
     GII_E_OUTPUT_BYTES = 7,     /* has the output the size of the data (gii_read) or of a block (all others)? */
     GII_E_UNSETTLED = 8,        /* are all strips settled when decoding ends? gii_decode and gii_read */
@@ -63,15 +68,15 @@ enum {
 
 /*
  * The data bytes of a block (at most GII_DATA_MAX) and all its bytes (at most GII_BLOCK_MAX). 0 exactly if the profile
- * is refused by 1 to 5: an accepted one never has 0. They are the sizes for whoever reads, so that stored blocks with
- * equal strengths keep theirs; gii_encode may still answer 15.
+ * is refused by 1 to 5 or 14: an accepted one never has 0. They are the sizes for whoever reads, so that stored blocks
+ * with equal strengths keep theirs; gii_encode may still answer 15.
  */
 size_t gii_data_size(const uint8_t *profile, size_t profile_size);
 size_t gii_block_size(const uint8_t *profile, size_t profile_size);
 
 /*
  * Writes to out the block with the given data: the one codeword whose data bytes, strip after strip, are these.
- * data_size must be gii_data_size and out_size gii_block_size. Returns 0, or 1 to 7 or 15.
+ * data_size must be gii_data_size and out_size gii_block_size. Returns 0, or 1 to 7, 14 or 15.
  */
 uint8_t gii_encode(const uint8_t *profile, size_t profile_size, const uint8_t *data, size_t data_size,
                    uint8_t *out, size_t out_size);
@@ -79,8 +84,8 @@ uint8_t gii_encode(const uint8_t *profile, size_t profile_size, const uint8_t *d
 /*
  * Reads a block, which may have changed since it was written, and writes its data, in the order in which they were
  * written. What is accepted is always the data of a codeword. block_size must be gii_block_size and data_size
- * gii_data_size. Returns a result: its number is 0, or 1 to 9 (gii_number), and with 8 it says the stage after which
- * reading ended (gii_stage).
+ * gii_data_size. Returns a result: its number is 0, or 1 to 9 or 14 (gii_number), and with 8 it says the stage after
+ * which reading ended (gii_stage).
  */
 uint16_t gii_read(const uint8_t *profile, size_t profile_size, const uint8_t *block, size_t block_size,
                   uint8_t *data, size_t data_size);
@@ -105,8 +110,8 @@ uint16_t gii_decode(const uint8_t *profile, size_t profile_size, const uint8_t *
 
 /*
  * The data of strip i, where they stand in the caller's block: gii_fetch_size bytes from block + gii_fetch_start on
- * (FORMAT 5). Nothing is mended; of the block only the size is judged. gii_fetch returns 0, or 1 to 6 or 10. The size
- * is 0 exactly if gii_fetch refuses, and the start is then 0 too.
+ * (FORMAT 5). Nothing is mended; of the block only the size is judged. gii_fetch returns 0, or 1 to 6, 10 or 14. The
+ * size is 0 exactly if gii_fetch refuses, and the start is then 0 too.
  */
 uint8_t gii_fetch(const uint8_t *profile, size_t profile_size, const uint8_t *block, size_t block_size, size_t i);
 size_t gii_fetch_start(const uint8_t *profile, size_t profile_size, const uint8_t *block, size_t block_size, size_t i);
@@ -124,12 +129,13 @@ static inline uint8_t gii_stage(uint16_t result) { return (uint8_t)(result >> 8)
 static inline const char *gii_message(uint8_t number) {
     switch (number) {
     case GII_OK: return "accepted";
-    case GII_E_PROFILE_BYTES: return "the profile has neither 7 nor 0 bytes";
+    case GII_E_PROFILE_BYTES: return "the profile has neither 7 nor 8 nor 0 bytes";
     case GII_E_STRIPS: return "the number of strips is not from 1 to 8";
     case GII_E_NESTED: return "the number of nested sums is above 3, or not below the number of strips";
     case GII_E_STRENGTHS: return "the strengths are not in order";
     case GII_E_EQUAL_STRENGTHS: return "two strengths are equal; such blocks are read, and no longer written";
     case GII_E_LENGTH: return "a strip has too few bytes for its strength";
+    case GII_E_FIRST_ROOT: return "the exponent of the first root is 255";
     case GII_E_INPUT_BYTES: return "the input has the wrong size";
     case GII_E_OUTPUT_BYTES: return "the output has the wrong size";
     case GII_E_UNSETTLED: return "too many strips have too many changes";
