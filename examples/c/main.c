@@ -65,6 +65,19 @@ int main(void) {
     printf("no profile: sizes %zu %zu, write %d, %s\n", gii_data_size(NULL, 0), gii_block_size(NULL, 0), number,
            memcmp(damaged, written, size) == 0 ? "the same block" : "another block");
 
+    /* An eighth byte names the first root: alpha^0 here. No first root is called 255. */
+    uint8_t other[] = {2, 1, 5, 1, 2, 0, 0, 0}, four[] = {10, 20, 30, 40}, small[10];
+    printf("first root 0: write %d,", gii_encode(other, sizeof other, four, sizeof four, small, sizeof small));
+    for (size_t k = 0; k < sizeof small; k++)
+        printf(" %d", small[k]);
+    small[3] ^= 200;
+    small[8] ^= 9;
+    number = gii_read(other, sizeof other, small, sizeof small, back, sizeof four);
+    printf("; data %d: %s\n", number, memcmp(back, four, sizeof four) == 0 ? "as given" : "not as given");
+    other[7] = 255;
+    printf("refused %d: a first root of 255\n",
+           gii_encode(other, sizeof other, four, sizeof four, small, sizeof small));
+
     /* Three strips with more changes than any strength: after stage 1 there may be two. */
     memcpy(damaged, written, size);
     damage(damaged, 1, 30);

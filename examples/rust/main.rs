@@ -201,6 +201,20 @@ fn main() {
     let same = if damaged == written { "the same block" } else { "another block" };
     println!("no profile: sizes {} {}, write {number}, {same}", gii::data_size(&[]), gii::block_size(&[]));
 
+    // An eighth byte names the first root: alpha^0 here. No first root is called 255.
+    let (mut other, four, mut small) = ([2, 1, 5, 1, 2, 0, 0, 0], [10, 20, 30, 40], [0; 10]);
+    let number = gii::encode(&other, &four, &mut small);
+    print!("first root 0: write {number},");
+    for byte in small {
+        print!(" {byte}");
+    }
+    small[3] ^= 200;
+    small[8] ^= 9;
+    let number = gii::read(&other, &small, &mut back[..4]).map_or_else(|refusal| refusal.number, |()| 0);
+    println!("; data {number}: {}", if back[..4] == four { "as given" } else { "not as given" });
+    other[7] = 255;
+    println!("refused {}: a first root of 255", gii::encode(&other, &four, &mut small));
+
     // Three strips with more changes than any strength: after stage 1 there may be two.
     damaged.copy_from_slice(&written);
     damage(&mut damaged, 1, 30);
