@@ -6,7 +6,8 @@
 -- Proved: judging that takes the step of its section prints what it has to (judges), and leads to a section that a card
 -- leads to (step-good); runs print what is to be printed (run-says), so from the start of a card they print its list
 -- (list-printed). How short the reads were that brought the bytes of a section does not enter. A card without a profile
--- has the list of the card with the seven bytes that no bytes stand for (none-printed).
+-- has the list of the card with the seven bytes that no bytes stand for (none-printed), and one with seven bytes that
+-- of the card with an eighth byte of 1 (seven-printed).
 use Prim.Native.Nat.{ℕ, _≤_, _<_}
 use mathlib.Core.Path.{_≡_, refl, sym, ap, ap₂, _∙_, subst, subst⁻¹}
 use mathlib.Core.Bool.{Bool, true, false, cond}
@@ -17,14 +18,14 @@ use lib.Dec.{ltb}
 use lib.ListN.{length, getD, take, drop, length-append}
 use lib.Seq.{take-at}
 use Rattle.profile.specs.declared.questions.Caller.the-variants.{Card}
-use Rattle.profile.specs.Questions.{factory, profile-of}
-use Rattle.profile.specs.QuestionsLaws.{none-means, none-accepted}
+use Rattle.profile.specs.Questions.{profile-of}
+use Rattle.profile.specs.QuestionsLaws.{none-means, none-accepted, seven-means}
 use Rattle.card.specs.declared.section.Section.{Section}
 use Rattle.card.specs.declared.section.Section.the-variants.{Size, Over}
 use Rattle.card.specs.declared.section.Judged.{Judged}
 use Rattle.card.specs.SectionDefinition.{good, known, size, wanted, Takes}
 use Rattle.card.specs.SectionLaws.{known-good, good-known}
-use Rattle.card.specs.PrintedDefinition.{counted, profile-judged, profiled, sized, printed}
+use Rattle.card.specs.PrintedDefinition.{profile-judged, sized, printed}
 use Rattle.card.specs.PrintedStep.{whole, cut, step, after, rest, Judges}
 use Rattle.card.specs.PrintedFollows.{follows, cut-good, whole-good, section-whole, none-profiled}
 use Rattle.card.specs.PrintedFalls.{step-falls}
@@ -93,15 +94,25 @@ run-says _ _ _ (next s c p l t m h r) =
 pub list-printed : (c o : List ℕ) → Run Size c o → o ≡ printed c
 list-printed c o r = run-says Size c o r
 
+-- ---- what the bytes of a profile may be written as
+
+first-byte : (n : ℕ) (d : List ℕ) → printed (n ∷ d) ≡ sized n d
+first-byte n d = section-whole 1 (n ∷ d) (λ b. sized (getD b 0 0)) (omega arith)
+
+-- left out
 pub none-printed : (c : List ℕ) → printed (0 ∷ c) ≡ printed (7 ∷ 8 ∷ 3 ∷ 255 ∷ 14 ∷ 16 ∷ 18 ∷ 24 ∷ c)
 none-printed c =
-    first 0 c ∙ none-profiled c
-    ∙ sym (first 7 (8 ∷ 3 ∷ 255 ∷ 14 ∷ 16 ∷ 18 ∷ 24 ∷ c) ∙ seven)
-  where
-    first : (n : ℕ) (d : List ℕ) → printed (n ∷ d) ≡ sized n d
-    first n d = section-whole 1 (n ∷ d) (λ b. sized (getD b 0 0)) (omega arith)
+    first-byte 0 c ∙ none-profiled c
+    ∙ sym (first-byte 7 (8 ∷ 3 ∷ 255 ∷ 14 ∷ 16 ∷ 18 ∷ 24 ∷ c)
+    ∙ section-whole 7 (8 ∷ 3 ∷ 255 ∷ 14 ∷ 16 ∷ 18 ∷ 24 ∷ c) (λ b. profile-judged (profile-of b)) (omega arith)
+    ∙ ap (λ a. profile-judged a c) (sym (none-means Card 0 0 0) ∙ none-accepted))
 
-    seven : profiled 7 (8 ∷ 3 ∷ 255 ∷ 14 ∷ 16 ∷ 18 ∷ 24 ∷ c) ≡ counted factory c
-    seven =
-        section-whole 7 (8 ∷ 3 ∷ 255 ∷ 14 ∷ 16 ∷ 18 ∷ 24 ∷ c) (λ b. profile-judged (profile-of b)) (omega arith)
-        ∙ ap (λ a. profile-judged a c) (sym (none-means Card 0 0 0) ∙ none-accepted)
+-- without a first root
+pub seven-printed : (m v n t0 t1 t2 t3 : ℕ) (c : List ℕ)
+    → printed (7 ∷ m ∷ v ∷ n ∷ t0 ∷ t1 ∷ t2 ∷ t3 ∷ c) ≡ printed (8 ∷ m ∷ v ∷ n ∷ t0 ∷ t1 ∷ t2 ∷ t3 ∷ 1 ∷ c)
+seven-printed m v n t0 t1 t2 t3 c =
+    first-byte 7 (m ∷ v ∷ n ∷ t0 ∷ t1 ∷ t2 ∷ t3 ∷ c)
+    ∙ section-whole 7 (m ∷ v ∷ n ∷ t0 ∷ t1 ∷ t2 ∷ t3 ∷ c) (λ b. profile-judged (profile-of b)) (omega arith)
+    ∙ ap (λ a. profile-judged a c) (seven-means Card m v n t0 t1 t2 t3 0 0 0)
+    ∙ sym (first-byte 8 (m ∷ v ∷ n ∷ t0 ∷ t1 ∷ t2 ∷ t3 ∷ 1 ∷ c)
+    ∙ section-whole 8 (m ∷ v ∷ n ∷ t0 ∷ t1 ∷ t2 ∷ t3 ∷ 1 ∷ c) (λ b. profile-judged (profile-of b)) (omega arith))

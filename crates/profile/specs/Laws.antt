@@ -1,11 +1,13 @@
--- Capabilities past the last, tests with `!`, and tests for the number 0.
+-- Capabilities past the last, a byte that is there, tests with `!`, and tests for the number 0.
 --
 -- Proved: the answer with the number 0 is no refusal (gives-accepted), and one with another number is (keeps-refused).
-use Prim.Native.Nat.{ℕ, zero, suc, _≤_}
-use mathlib.Core.Path.{_≡_, refl, sym}
+use Prim.Native.Nat.{ℕ, zero, suc, _≤_, _<_}
+use mathlib.Core.Path.{_≡_, refl, sym, ap, _∙_}
 use mathlib.Core.Bool.{Bool, true, false, not}
 use mathlib.Core.List.{List}
 use native.Mathlib.Omega.{arith}
+use lib.ListN.{length, getD}
+use lib.Seq.{getD-set-same, set-getD}
 use Rattle.profile.specs.declared.Profile.{Profile}
 use Rattle.profile.specs.declared.Refusal.{Refusal}
 use Rattle.profile.specs.declared.Refusal.the-variants.{ProfileSize, Subwords, Nested, Capabilities}
@@ -30,6 +32,10 @@ capability-past p (suc zero) h = absurd (omega arith)
 capability-past p (suc (suc zero)) h = absurd (omega arith)
 capability-past p (suc (suc (suc zero))) h = absurd (omega arith)
 capability-past p (suc (suc (suc (suc r)))) h = refl
+
+-- what stands for a byte that is missing is no matter
+pub byte-there : (b : List ℕ) (i x y : ℕ) → i < length b → getD b i x ≡ getD b i y
+byte-there b i x y h = sym (getD-set-same b i (getD b i x) y h) ∙ ap (λ (l : List ℕ). getD l i y) (set-getD b i x)
 
 -- ---- tests for the number 0
 

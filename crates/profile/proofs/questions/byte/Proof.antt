@@ -3,6 +3,7 @@ use Prim.Native.Nat.{_≤_}
 use lib.ListN.{length, List·getD-eq-default}
 use native.Mathlib.Omega.{arith}
 use mathlib.Core.Path.{sym}
+use Rattle.profile.specs.Laws.{byte-there}
 use borrow.Author.Needs.{needs}
 use Rattle.profile.proofs.questions.byte.Statement.{statement}
 use Rattle.profile.proofs.questions.byte.Tie as tie
@@ -11,7 +12,9 @@ shared-slice-read-result : tie.Need-shared-slice-read-result
 shared-slice-read-result c = search needs
 
 returns : tie.Need-returns
-returns c = search needs
+returns c =
+    let given = c .before .before .args in
+    byte-there (given .bytes .now) (given .i) 0 (given .missing) (c .before .if1 .taken)
 
 returns-2 : tie.Need-returns-2
 returns-2 c =

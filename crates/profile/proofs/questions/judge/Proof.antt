@@ -1,7 +1,10 @@
 -- Question after question, from the last back to the first; then what each of them asks.
 use mathlib.Core.Path.{refl, sym, ap, ap₂, _∙_}
-use mathlib.Core.Bool.{_||_}
+use mathlib.Core.Bool.{true, _||_}
 use lib.Dec.{eqb}
+use Rattle.profile.specs.declared.Refusal.the-variants.{ProfileSize}
+use Rattle.profile.specs.declared.Parsed.the-variants.{Accepted}
+use Rattle.profile.specs.Questions.{put}
 use Rattle.profile.specs.QuestionsLaws.{next, asked-in-order}
 use borrow.Author.Needs.{needs}
 use Rattle.profile.proofs.questions.judge.Statement.{statement}
@@ -123,7 +126,7 @@ returns c =
     (next _ (asked4 .ask4 .ensures) refl (asked4 .before .capabilities .ensures)
     (next _ (asked3 .ask3 .ensures) refl (asked3 .before .nested .ensures)
     (next _ (asked2 .ask2 .ensures) refl (asked2 .before .subwords .ensures)
-    (next _ (asked1 .ask .ensures) refl (asked1 .before .size .ensures) refl)))))))))))
+    (asked1 .ask .ensures ∙ ap (λ g. put true g ProfileSize (Accepted (given .p))) (asked1 .before .size .ensures))))))))))))
     ∙ sym (asked-in-order (given .caller) l (given .p))
 
 pub judge-spec : {M : Type 1} → statement M
