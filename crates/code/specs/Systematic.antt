@@ -23,8 +23,10 @@ use Rattle.code.specs.Word.{root, syndrome, upper, check-symbols, system
 -- α^f cancels
 pub roots-distinct : (f k : ℕ) → k < 255 → Distinct k (root f)
 unfolding root
-roots-distinct f k h i j l q e = power-inj i j (omega arith) (omega arith)
-    (⊙-cancel (pow α f) (power-nonzero f) (sym (pow-add α f i) ∙ e ∙ pow-add α f j))
+roots-distinct f k h i j l q e =
+    let z : i ≡ j = power-inj i j (omega arith) (omega arith)
+    (⊙-cancel (pow α f) (power-nonzero f) (sym (pow-add α f i) ∙ e ∙ pow-add α f j)) in
+    omega arith
 
 -- from root a on
 pub root-from : (f a j : ℕ) → root f (a + j) ≡ root (f + a) j

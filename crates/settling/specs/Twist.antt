@@ -17,7 +17,7 @@ use mathlib.Core.List.{List}
 use mathlib.Core.Option.{Option, none, some}
 use native.Mathlib.Nat.{mul-comm}
 use native.Mathlib.Omega.{arith}
-use Rattle.field.specs.Field.{F, 𝟎, 𝟏, α, _⊙_, _≟_, ⊙-assoc, ⊙-one, one-⊙, zero-⊙, ⊙-ring, ⊙-nonzero, ⊙-factor}
+use Rattle.field.specs.Field.{F, 𝟎, 𝟏, α, _⊙_, _≟_, ⊙-assoc, ⊙-one, one-⊙, ⊙-zero, ⊙-ring, ⊙-nonzero, ⊙-factor}
 use Rattle.field.specs.Field.{pow, pow-one, pow-add, pow-mul, pow-⊙, one-pow, pow-nonzero, power-255, power-nonzero}
 use Rattle.series.specs.Sum.{sum-cong}
 use Rattle.series.specs.Series.{Series}
