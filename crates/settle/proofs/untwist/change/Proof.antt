@@ -1,6 +1,7 @@
 -- Zero stays zero.
 use mathlib.Core.Path.{sym, ap, _∙_}
 use Rattle.field.specs.Field.{_⊙_, ⊙-zero, val, isZero-true}
+use Rattle.settling.specs.Twist.{inverse-multiplier}
 use borrow.Author.Needs.{needs}
 use Rattle.settle.proofs.untwist.change.Statement.{statement}
 use Rattle.settle.proofs.untwist.change.Tie as tie
@@ -10,9 +11,10 @@ is-zero-requires c κs = search needs
 
 returns : tie.Need-returns
 returns c =
-    let y = val (c .before .before .before .args .y) in
+    let given = c .before .before .args in
+    let y = val (given .y) in
     let z = isZero-true y (sym (c .before .is-zero .ensures) ∙ c .if1 .taken) in
-    z ∙ sym (ap (λ t. _ ⊙ t) z ∙ ⊙-zero _)
+    z ∙ sym (ap (λ t. inverse-multiplier (given .first) (given .p) ⊙ t) z ∙ ⊙-zero _)
 
 inverse-multiplier-requires : tie.Need-inverse-multiplier-requires
 inverse-multiplier-requires c κs = search needs

@@ -26,10 +26,12 @@ array-copy-out-change : tie.Need-array-copy-out-change Inv-loop μ-loop
 array-copy-out-change c = search needs
 
 change-requires : tie.Need-change-requires Inv-loop μ-loop
-change-requires c κs = ?
+change-requires c κs =
+    let at-loop = c .before .before .before in
+    (at-loop .before .powers .ensures, omega (arith, at-loop .loop .inv .0, at-loop .before .before .pre))
 
-array-set-out : tie.Need-array-set-out Inv-loop μ-loop
-array-set-out c = search needs
+array-set-from-out : tie.Need-array-set-from-out Inv-loop μ-loop
+array-set-from-out c = search needs
 
 add-p : tie.Need-add-p Inv-loop μ-loop
 add-p c = search needs
@@ -38,14 +40,23 @@ loop-less : tie.Need-loop-less Inv-loop μ-loop
 loop-less c = search needs
 
 loop-again : tie.Need-loop-again Inv-loop μ-loop
-loop-again c = ?
+loop-again c =
+    let at-loop = c .before .before .before .before in
+    let now = at-loop .loop in
+    let given = at-loop .before .before .args in (
+      omega arith,
+      filled-more _ (now .inv .1) (omega arith)
+          (c .change .ensures
+          ∙ sym (untwist-at (given .first) (values (given .t2)) (now .p)
+          ∙ ap (λ y. inverse-multiplier (given .first) (now .p) ⊙ y) (read-at _ _ _ _))),
+    )
 
 returns : tie.Need-returns Inv-loop μ-loop
 returns c =
     let end = c .before .loop in
     let given = c .before .before .before .args in
     let e : end .p ≡ given .n = omega arith in
-    end .inv .1 .is ∙ ap (λ p. cut p (untwist (given .first) (values (given .t1)))) e
+    end .inv .1 .is ∙ ap (λ p. cut p (untwist (given .first) (values (given .t2)))) e
 
 pub untwist-spec : {M : Type 1} → statement M
 untwist-spec =
@@ -57,7 +68,7 @@ untwist-spec =
     loop-holds
     array-copy-out-change
     change-requires
-    array-set-out
+    array-set-from-out
     add-p
     loop-less
     loop-again
