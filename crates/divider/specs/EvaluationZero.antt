@@ -52,8 +52,9 @@ bits-more l i bits p small =
         let b : bitAnd bits (getD l i 0) ≤ getD l i 0 = and-le-r bits (getD l i 0) in
         (omega arith, omega arith)
 
-pub zero-syndromes : (n k : ℕ) (w : Series) → w ≡ O → O ≡ cut k (syndrome n w)
-zero-syndromes n k w z = sym (cut-unique k (syndrome n w) O (λ j _. none j ∙ sym (O-at j)) (λ j _. O-at j))
+pub zero-syndromes : (first n k : ℕ) (w : Series) → w ≡ O → O ≡ cut k (syndrome first n w)
+zero-syndromes first n k w z =
+    sym (cut-unique k (syndrome first n w) O (λ j _. none j ∙ sym (O-at j)) (λ j _. O-at j))
   where
-    none : (j : ℕ) → syndrome n w j ≡ 𝟎
-    none j = syndrome-is n w j ∙ value-zero n w (root j) (λ i _. ap (λ (f : Series). f i) z ∙ O-at i)
+    none : (j : ℕ) → syndrome first n w j ≡ 𝟎
+    none j = syndrome-is first n w j ∙ value-zero n w (root first j) (λ i _. ap (λ (f : Series). f i) z ∙ O-at i)

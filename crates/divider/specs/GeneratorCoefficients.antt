@@ -3,7 +3,7 @@
 --   stretch f   the polynomial f with αz for z
 --   Zech i e    e is the exponent of α^(i+1) + 1: Zech's logarithm
 --
--- Proved: the generator of k + 1 roots, stretched, is that of k roots times z + α^first and a constant (stretched),
+-- Proved: the generator of k + 1 roots, stretched, is that of k roots times αz + α^first and a constant (stretched),
 -- since the roots are consecutive powers of α. So a coefficient is known from the one above it (coefficient-below), its
 -- exponent from that one's (exponent-more). A loop that stores the coefficients from the top down goes on by back-more
 -- and ends with the generator (back-all).
@@ -15,10 +15,10 @@ use native.Mathlib.Numerals.{add-one}
 use native.Mathlib.Omega.{arith}
 use lib.ListN.{length, set}
 use Rattle.field.specs.Field.{F, 𝟎, 𝟏, α, _⊕_, _⊙_, of, pow, ⊕-group, ⊕-lc, ⊕-zero, zero-⊕, ⊙-zero, one-⊙}
-use Rattle.field.specs.Field.{⊙-cancel, ⊙-ring, alpha≢zero, log, pow-log, pow-zero, pow-suc, pow-add, power-255}
+use Rattle.field.specs.Field.{⊙-cancel, ⊙-ring, log, pow-log, pow-zero, pow-suc, pow-add, power-255}
 use Rattle.field.specs.Field.{power-nonzero, power-apart}
 use Rattle.series.specs.Series.{Series, O, K, Z, _⊞_, _⊠_, ⊠-ring, ⊞-at, K-suc, K-⊠-at, Z-⊠-at0}
-use Rattle.series.specs.Series.{Z-⊠-at, ⊞-⊠, ⊠-zero, head-tail}
+use Rattle.series.specs.Series.{Z-⊠-at, ⊞-⊠, ⊠-assoc, ⊠-zero, head-tail}
 use Rattle.series.specs.Shift.{zpow, drop, zpow-suc, zpow-at, zpow-one, zpow-other}
 use Rattle.series.specs.Shift.{zpow-low, drop-at0, drop-suc, drop-zpow}
 use Rattle.series.specs.Degree.{below, below-⊠, below-zpow, below-drop, below-none}
@@ -52,80 +52,80 @@ stretch-factor a f = fun-ext at-i ∙ shape (stretch f)
     at-i zero = rw (⊞-⊠, ⊞-at, ⊞-at, K-⊠-at, K-⊠-at, Z-⊠-at0, Z-⊠-at0) (simp ⊙-ring)
     at-i (suc i) = rw (⊞-⊠, ⊞-at, ⊞-at, K-⊠-at, K-⊠-at, Z-⊠-at, Z-⊠-at, K-⊠-at, pow-suc) (simp ⊙-ring)
 
-root-power : (k : ℕ) → root k ≡ α ⊙ pow α k
-unfolding root
-root-power k = ap (pow α) (add-one k) ∙ pow-suc α k
+power-next : (k : ℕ) → pow α (k + 1) ≡ α ⊙ pow α k
+power-next k = ap (pow α) (add-one k) ∙ pow-suc α k
 
-root-suc : (k : ℕ) → root (suc k) ≡ α ⊙ root k
-root-suc k = root-power (suc k) ∙ ap (λ (s : F). α ⊙ s) (pow-suc α k ∙ sym (root-power k))
-
-root-add : (first k : ℕ) → root (first + k) ≡ pow α first ⊙ root k
+root-add : (first k : ℕ) → root first k ≡ pow α first ⊙ pow α k
 unfolding root
-root-add first k = let e : first + k + 1 ≡ first + (k + 1) = omega arith in ap (pow α) e ∙ pow-add α first (k + 1)
+root-add first k = pow-add α first k
 
 module _ (first : ℕ) where
-  stretched : (k : ℕ) → stretch (generator first (suc k)) ≡ K (root k) ⊠ ((Z ⊞ K (pow α first)) ⊠ generator first k)
+  stretched : (k : ℕ)
+      → stretch (generator first (suc k)) ≡ K (pow α k) ⊠ ((K α ⊠ Z ⊞ K (pow α first)) ⊠ generator first k)
   unfolding generator
-  stretched zero = stretch-factor (root (first + 0)) (K 𝟏)
-      ∙ rw (stretch-one, root-add, root-power, pow-zero) (shape (pow α first))
+  stretched zero = stretch-factor (root first 0) (K 𝟏) ∙ rw (stretch-one, root-add, pow-zero) (shape (pow α first))
     where
-      shape : (a : F) → (K α ⊠ Z ⊞ K (a ⊙ (α ⊙ 𝟏))) ⊠ K 𝟏 ≡ K (α ⊙ 𝟏) ⊠ ((Z ⊞ K a) ⊠ K 𝟏)
+      shape : (a : F) → (K α ⊠ Z ⊞ K (a ⊙ 𝟏)) ⊠ K 𝟏 ≡ K 𝟏 ⊠ ((K α ⊠ Z ⊞ K a) ⊠ K 𝟏)
       shape a = simp ⊠-ring
   stretched (suc k) =
-      let e : first + suc k ≡ suc (first + k) = omega arith in
-      stretch-factor (root (first + suc k)) _
-      ∙ rw (stretched k, e, root-suc, root-suc) (shape (root k) (root (first + k)) (pow α first) (generator first k))
+      stretch-factor (root first (suc k)) _
+      ∙ rw (stretched k, root-add first (suc k), root-add first k, pow-suc)
+      (shape (pow α k) (pow α first) (generator first k))
     where
-      shape : (r s a : F) (g : Series)
-          → (K α ⊠ Z ⊞ K (α ⊙ s)) ⊠ (K r ⊠ ((Z ⊞ K a) ⊠ g)) ≡ K (α ⊙ r) ⊠ ((Z ⊞ K a) ⊠ ((Z ⊞ K s) ⊠ g))
-      shape r s a g = simp ⊠-ring
+      shape : (r a : F) (g : Series)
+          → (K α ⊠ Z ⊞ K (a ⊙ (α ⊙ r))) ⊠ (K r ⊠ ((K α ⊠ Z ⊞ K a) ⊠ g))
+          ≡ K (α ⊙ r) ⊠ ((K α ⊠ Z ⊞ K a) ⊠ ((Z ⊞ K (a ⊙ r)) ⊠ g))
+      shape r a g = simp ⊠-ring
 
   -- ---- a coefficient from the one above it
 
   coefficient-more : (k i : ℕ)
-      → generator first (suc k) (suc i) ≡ generator first k i ⊕ root (first + k) ⊙ generator first k (suc i)
+      → generator first (suc k) (suc i) ≡ generator first k i ⊕ root first k ⊙ generator first k (suc i)
   unfolding generator
   coefficient-more k i = rw (⊞-⊠, ⊞-at, Z-⊠-at, K-⊠-at)
 
   coefficient-stretched : (k i : ℕ)
-      → root i ⊙ generator first (suc k) (suc i)
-      ≡ root k ⊙ (generator first k i ⊕ pow α first ⊙ generator first k (suc i))
+      → pow α (i + 1) ⊙ generator first (suc k) (suc i)
+      ≡ pow α k ⊙ (α ⊙ generator first k i ⊕ pow α first ⊙ generator first k (suc i))
   unfolding stretch
   coefficient-stretched k i =
-      ap (λ (s : F). s ⊙ generator first (suc k) (suc i)) (root-power i ∙ sym (pow-suc α i))
+      ap (λ (s : F). s ⊙ generator first (suc k) (suc i)) (ap (pow α) (add-one i))
       ∙ ap (λ (f : Series). f (suc i)) (stretched k)
-      ∙ rw (K-⊠-at, ⊞-⊠, ⊞-at, Z-⊠-at, K-⊠-at) (simp ⊙-ring)
+      ∙ rw (K-⊠-at, ⊞-⊠, ⊞-at, ⊠-assoc, K-⊠-at, Z-⊠-at, K-⊠-at)
 
   coefficient-rule : (k i : ℕ)
-      → pow α k ⊙ (pow α first ⊙ ((root i ⊕ 𝟏) ⊙ generator first k (suc i))) ≡ (pow α k ⊕ pow α i) ⊙ generator first k i
+      → pow α k ⊙ (pow α first ⊙ ((pow α (i + 1) ⊕ 𝟏) ⊙ generator first k (suc i)))
+      ≡ (pow α k ⊕ pow α i) ⊙ (α ⊙ generator first k i)
   coefficient-rule k i =
-      ⊙-cancel α alpha≢zero (⊕-lc
-      (ap (λ (s : F). root i ⊙ s) (sym (coefficient-more k i)) ∙ coefficient-stretched k i)
-      (rw (root-add, root-power k, root-power i) (simp ⊙-ring)))
+      ⊕-lc
+      (ap (λ (s : F). pow α (i + 1) ⊙ s) (sym (coefficient-more k i)) ∙ coefficient-stretched k i)
+      (rw (root-add, power-next i) (simp ⊙-ring))
 
   -- from the top, with j coefficients above it
   coefficient-below : (k j : ℕ) → j < k
-      → (root j ⊕ 𝟏) ⊙ generator first k (k - (j + 1))
-      ≡ root j ⊙ (pow α first ⊙ ((root (k - (j + 1)) ⊕ 𝟏) ⊙ generator first k (k - j)))
-  unfolding root
+      → (pow α (j + 1) ⊕ 𝟏) ⊙ generator first k (k - (j + 1))
+      ≡ pow α j ⊙ (pow α first ⊙ ((pow α (k - (j + 1) + 1) ⊕ 𝟏) ⊙ generator first k (k - j)))
   coefficient-below k j h =
-      let e : k ≡ j + 1 + i = omega arith in
+      let e : k ≡ j + (i + 1) = omega arith in
       let d : k - j ≡ suc i = omega arith in
-      ⊙-cancel (pow α i) (power-nonzero i)
-      (sym (rw d (shape (pow α i) (root j) (pow α first ⊙ ((root i ⊕ 𝟏) ⊙ generator first k (suc i)))
-      ∙ ap (λ (s : F). s ⊙ (pow α first ⊙ ((root i ⊕ 𝟏) ⊙ generator first k (suc i))))
-      (sym (ap (pow α) e ∙ pow-add α (j + 1) i))
+      let split : pow α k ≡ pow α j ⊙ pow α (i + 1) = ap (pow α) e ∙ pow-add α j (i + 1) in
+      ⊙-cancel (pow α (i + 1)) (power-nonzero (i + 1))
+      (sym (rw d (shape (pow α (i + 1)) (pow α j) above
+      ∙ ap (λ (s : F). s ⊙ above) (sym split)
       ∙ coefficient-rule k i
-      ∙ ap (λ (s : F). (s ⊕ pow α i) ⊙ generator first k i) (ap (pow α) e ∙ pow-add α (j + 1) i)
-      ∙ last (pow α i) (root j) (generator first k i))))
+      ∙ ap (λ (s : F). (s ⊕ pow α i) ⊙ (α ⊙ generator first k i)) split
+      ∙ rw (power-next i, power-next j) (last (pow α i) (pow α j) (generator first k i)))))
     where
       i : ℕ
       i = k - (j + 1)
 
+      above : F
+      above = pow α first ⊙ ((pow α (i + 1) ⊕ 𝟏) ⊙ generator first k (suc i))
+
       shape : (x a b : F) → x ⊙ (a ⊙ b) ≡ a ⊙ x ⊙ b
       shape x a b = simp ⊙-ring
 
-      last : (x a g : F) → (a ⊙ x ⊕ x) ⊙ g ≡ x ⊙ ((a ⊕ 𝟏) ⊙ g)
+      last : (x a g : F) → (a ⊙ (α ⊙ x) ⊕ x) ⊙ (α ⊙ g) ≡ α ⊙ x ⊙ ((α ⊙ a ⊕ 𝟏) ⊙ g)
       last x a g = simp ⊙-ring
 
   pub coefficient-top : (k : ℕ) → generator first k k ≡ 𝟏
@@ -136,24 +136,22 @@ module _ (first : ℕ) where
   -- ---- in exponents
 
   pub exponent-more : (k j e a b : ℕ) → j < k → b < 256 → pow α e ≡ generator first k (k - j)
-      → pow α a ≡ root (k - (j + 1)) ⊕ 𝟏
-      → pow α b ≡ root j ⊕ 𝟏 → pow α (e + (first + j + 256 + a) - b) ≡ generator first k (k - (j + 1))
-  unfolding root
+      → pow α a ≡ pow α (k - (j + 1) + 1) ⊕ 𝟏
+      → pow α b ≡ pow α (j + 1) ⊕ 𝟏 → pow α (e + (first + j + 255 + a) - b) ≡ generator first k (k - (j + 1))
   exponent-more k j e a b h small p q r =
-      let s : b + (e + (first + j + 256 + a) - b) ≡ 255 + (j + 1 + (first + (a + e))) = omega arith in
+      let s : b + (e + (first + j + 255 + a) - b) ≡ 255 + (j + (first + (a + e))) = omega arith in
       ⊙-cancel (pow α b) (power-nonzero b)
       (sym (pow-add α b _)
       ∙ ap (pow α) s
-      ∙ rw (pow-add α 255, pow-add α (j + 1), pow-add α first, pow-add α a, power-255, p, q, r)
+      ∙ rw (pow-add α 255, pow-add α j, pow-add α first, pow-add α a, power-255, p, q, r)
       (one-⊙ _ ∙ sym (coefficient-below k j h)))
 
 -- ---- Zech's logarithms
 
 abbrev pub Zech : ℕ → ℕ → Type 0
-Zech i e = pow α e ≡ root i ⊕ 𝟏
+Zech i e = pow α e ≡ pow α (i + 1) ⊕ 𝟏
 
 pub zech-log : (i e : ℕ) (a s x : F) → i < 48 → a ≡ pow α (i + 1) → s ≡ 𝟏 → x ≡ a ⊕ s → e ≡ log x → Zech i e
-unfolding root
 zech-log i e a s x h ea es ex l = ap (pow α) l ∙ pow-log x nonzero ∙ ex ∙ ap₂ _⊕_ ea es
   where
     nonzero : x ≢ 𝟎

@@ -31,25 +31,26 @@ pub room : (k : ℕ) (checks word : List ℕ) → k ≤ 48 → k ≤ length word
     → length (take k word) ≡ length (take (48 - (48 - k)) (drop-list (48 - k) checks))
 room k checks word h l long = length-take-le k word l ∙ sym (top-length k checks h long)
 
-front-all : (n k : ℕ) (t : List ℕ) (w r : Series) → k ≤ 48 → k ≤ n → Table 0 k t
+front-all : (first n k : ℕ) (t : List ℕ) (w r : Series) → k ≤ 48 → k ≤ n → Table first k t
     → r ≡ remainder (lower (rows k) t) (n - k) (drop k w)
-    → cut k (drop (48 - k) r) ⊞ zpow k ⊠ drop k w ≡ systematic n k w
-front-all n k t w r h l p e =
+    → cut k (drop (48 - k) r) ⊞ zpow k ⊠ drop k w ≡ systematic first n k w
+front-all first n k t w r h l p e =
     shape (cut k w) _ _
-    ∙ ap₂ _⊞_ (sym (cut-drop k w)) (sym (cut-⊞ k w _) ∙ residue-table 0 n k t w r _ (omega arith) l p e refl)
-    ∙ residue-systematic n k w (omega arith) l
+    ∙ ap₂ _⊞_ (sym (cut-drop k w)) (sym (cut-⊞ k w _) ∙ residue-table first n k t w r _ h l p e refl)
+    ∙ residue-systematic first n k w (omega arith) l
   where
     shape : (a b c : Series) → b ⊞ c ≡ a ⊞ c ⊞ (a ⊞ b)
     shape a b c = simp ⊞-group
 
-pub encoded : (k : ℕ) (t checks y word : List ℕ) → k ≤ 48 → k ≤ length word → Table 0 k t → length checks ≡ 48
+pub encoded : (first k : ℕ) (t checks y word : List ℕ) → k ≤ 48 → k ≤ length word → Table first k t
+    → length checks ≡ 48
     → bytes checks ≡ remainder (lower (rows k) t) (length word - k) (drop k (bytes word))
     → y ≡ take (48 - (48 - k)) (drop-list (48 - k) checks)
-    → bytes (y ++ drop-list k word) ≡ systematic (length word) k (bytes word)
-encoded k t checks y word h l p long e copied =
+    → bytes (y ++ drop-list k word) ≡ systematic first (length word) k (bytes word)
+encoded first k t checks y word h l p long e copied =
     front k y word (drop (48 - k) (bytes checks)) (ap length copied ∙ top-length k checks h long)
     (ap bytes copied ∙ top)
-    ∙ front-all (length word) k t (bytes word) (bytes checks) h l p e
+    ∙ front-all first (length word) k t (bytes word) (bytes checks) h l p e
   where
     top : bytes (take (48 - (48 - k)) (drop-list (48 - k) checks)) ≡ cut k (drop (48 - k) (bytes checks))
     top =

@@ -1,11 +1,11 @@
--- The remainder of a word by the generator of k roots, from root `first` on, and what it tells of the word.
+-- The remainder of a word by the generator of k roots, the first one being α^first, and what it tells of the word.
 --
 --   residue first n k w   that remainder: the one polynomial of degree below k with the word's values at these roots
 --   Residual first k l r  the array r of 48 symbols holds the remainder of the word l
 --
--- Proved: it has the word's syndromes first to first + k - 1 (residue-syndrome; residue-array and residue-syndromes
--- from an array); it is found by the table (residue-table) and depends on the first n symbols (residue-cong). With the
--- first k roots: a word and its remainder make the systematic word (residue-systematic).
+-- Proved: it has the word's first k syndromes (residue-syndrome; residue-array and residue-syndromes from an array); it
+-- is found by the table (residue-table) and depends on the first n symbols (residue-cong). A word and its remainder
+-- make the systematic word (residue-systematic).
 use Prim.Native.Nat.{ℕ, _+_, _-_, _≤_, _<_}
 use mathlib.Core.Path.{_≡_, sym, ap, ap₂, _∙_, fun-ext}
 use mathlib.Core.List.{List}
@@ -29,7 +29,7 @@ use Rattle.code.specs.Word.{root, syndrome, upper, systematic}
 use Rattle.code.specs.Systematic.{roots-distinct, syndrome-is, syndrome-cong, syndrome-⊞, check-symbols-is}
 
 unfoldable pub residue : ℕ → ℕ → ℕ → Series → Series
-residue first n k w = interpolate k (λ j. root (first + j)) (λ j. syndrome n w (first + j))
+residue first n k w = interpolate k (root first) (syndrome first n w)
 
 pub record Residual (first k : ℕ) (l r : List ℕ) : Type 0 where
   pub long : length r ≡ 48
@@ -42,11 +42,10 @@ below-residue first n k w = below-interpolate k _ _
 pub residue-cong : (first n k : ℕ) (f g : Series) → ((i : ℕ) → i < n → f i ≡ g i)
     → residue first n k f ≡ residue first n k g
 unfolding residue
-residue-cong first n k f g same =
-    ap (interpolate k (λ j. root (first + j))) (fun-ext (λ j. syndrome-cong n f g same (first + j)))
+residue-cong first n k f g same = ap (interpolate k (root first)) (fun-ext (syndrome-cong first n f g same))
 
 -- by the table: from what the symbols from k on leave
-pub residue-table : (first n k : ℕ) (t : List ℕ) (w r out : Series) → first + k ≤ 48 → k ≤ n → Table first k t
+pub residue-table : (first n k : ℕ) (t : List ℕ) (w r out : Series) → k ≤ 48 → k ≤ n → Table first k t
     → r ≡ remainder (lower (rows k) t) (n - k) (drop k w) → out ≡ cut k (w ⊞ drop (48 - k) r)
     → out ≡ residue first n k w
 unfolding residue aligned root syndrome
@@ -59,71 +58,60 @@ residue-table first n k t w r out h l p e o =
     ∙ sym (whole j))
   where
     x : ℕ → F
-    x j = root (first + j)
+    x = root first
 
     left : (j : ℕ) → j < k → value k (drop (48 - k) r) (x j) ≡ pow (x j) k ⊙ value (n - k) (drop k w) (x j)
     left j b =
         ap (λ (f : Series). value k (drop (48 - k) f) (x j)) e
         ∙ remainder-top k (rest first k) (lower (rows k) t) (n - k) (drop k w) (x j) (omega arith) (p .generator)
-        (below-rest first k) (power-nonzero (first + j + 1))
-        (rest-value first k j b)
+        (below-rest first k) (power-nonzero (first + j)) (rest-value first k j b)
 
     whole : (j : ℕ) → value n w (x j) ≡ value k w (x j) ⊕ pow (x j) k ⊙ value (n - k) (drop k w) (x j)
     whole j = let e : n ≡ k + (n - k) = omega arith in ap (λ (m : ℕ). value m w (x j)) e ∙ value-split k (n - k) w (x j)
 
 pub residual-table : (first k : ℕ) (t : List ℕ)
-    → first + k ≤ 48 → Table first k t → (l : List ℕ) (r : Series) (out : List ℕ) → k ≤ length l → length out ≡ 48
+    → k ≤ 48 → Table first k t → (l : List ℕ) (r : Series) (out : List ℕ) → k ≤ length l → length out ≡ 48
     → r ≡ remainder (lower (rows k) t) (length l - k) (drop k (bytes l)) → bytes out ≡ cut k (bytes l ⊞ drop (48 - k) r)
     → Residual first k l out
 residual-table first k t h p l r out room long e o =
     record { long = long; is = residue-table first (length l) k t (bytes l) r (bytes out) h room p e o }
 
-module _ (first n k : ℕ) (w : Series) (small : first + k < 255) where
-  pub residue-syndrome : (j : ℕ) → j < k → value k (residue first n k w) (root (first + j)) ≡ syndrome n w (first + j)
+module _ (first n k : ℕ) (w : Series) (small : k < 255) where
+  pub residue-syndrome : (j : ℕ) → j < k → value k (residue first n k w) (root first j) ≡ syndrome first n w j
   unfolding residue
   residue-syndrome = interpolate-at k _ _ (roots-distinct first k small)
 
   -- from the first symbols of an array that holds it
   pub residue-array : (r : List ℕ) → k ≤ length r → bytes r ≡ residue first n k w → (j : ℕ) → j < k
-      → syndrome (length (take k r)) (bytes (take k r)) (first + j) ≡ syndrome n w (first + j)
+      → syndrome first (length (take k r)) (bytes (take k r)) j ≡ syndrome first n w j
   residue-array r long e j h =
-      ap (λ (m : ℕ). syndrome m (bytes (take k r)) (first + j)) (length-take-le k r long)
-      ∙ syndrome-is k _ (first + j)
-      ∙ value-cong k _ _ (root (first + j)) (λ i l. read-take of 0 k r i l ∙ ap (λ (f : Series). f i) e)
+      ap (λ (m : ℕ). syndrome first m (bytes (take k r)) j) (length-take-le k r long)
+      ∙ syndrome-is first k _ j
+      ∙ value-cong k _ _ (root first j) (λ i l. read-take of 0 k r i l ∙ ap (λ (f : Series). f i) e)
       ∙ residue-syndrome j h
 
--- ---- by the first k roots
+  pub residue-syndromes : (r : List ℕ) → k ≤ length r → bytes r ≡ residue first n k w
+      → cut k (syndrome first (length (take k r)) (bytes (take k r))) ≡ cut k (syndrome first n w)
+  residue-syndromes r long e = cut-cong k _ _ (residue-array r long e)
 
-module _ (n k : ℕ) (w : Series) (small : k < 255) where
-  pub residue-first : (j : ℕ) → j < k → value k (residue 0 n k w) (root j) ≡ syndrome n w j
-  residue-first j h =
-      let e : 0 + j ≡ j = omega arith in
-      ap (λ (i : ℕ). value k (residue 0 n k w) (root i)) (sym e)
-      ∙ residue-syndrome 0 n k w (omega arith) j h ∙ ap (syndrome n w) e
-
-  pub residue-syndromes : (r : List ℕ) → k ≤ length r → bytes r ≡ residue 0 n k w
-      → cut k (syndrome (length (take k r)) (bytes (take k r))) ≡ cut k (syndrome n w)
-  residue-syndromes r long e =
-      cut-cong k _ _
-      (λ j h. let z : 0 + j ≡ j = omega arith in rw z at (residue-array 0 n k w (omega arith) r long e j h))
-
-  pub residue-systematic : k ≤ n → w ⊞ residue 0 n k w ≡ systematic n k w
+  pub residue-systematic : k ≤ n → w ⊞ residue first n k w ≡ systematic first n k w
   unfolding systematic upper
   residue-systematic room =
-      ap (λ (f : Series). f ⊞ residue 0 n k w) (cut-drop k w)
-      ∙ shape (cut k w) (upper k w) (residue 0 n k w)
+      ap (λ (f : Series). f ⊞ residue first n k w) (cut-drop k w)
+      ∙ shape (cut k w) (upper k w) (residue first n k w)
       ∙ ap (λ (f : Series). f ⊞ upper k w)
-      (check-symbols-is n k w _ small (below-⊞ k _ _ (below-cut k w) (below-residue 0 n k w)) at-root)
+      (check-symbols-is first n k w _ small (below-⊞ k _ _ (below-cut k w) (below-residue first n k w)) at-root)
     where
       shape : (a b c : Series) → a ⊞ b ⊞ c ≡ a ⊞ c ⊞ b
       shape a b c = simp ⊞-group
 
-      low : (j : ℕ) → syndrome n (cut k w) j ≡ value k (cut k w) (root j)
-      low j = syndrome-is n _ j ∙ value-more k n _ (root j) (below-cut k w) room
+      low : (j : ℕ) → syndrome first n (cut k w) j ≡ value k (cut k w) (root first j)
+      low j = syndrome-is first n _ j ∙ value-more k n _ (root first j) (below-cut k w) room
 
-      at-root : (j : ℕ) → j < k → value k (cut k w ⊞ residue 0 n k w) (root j) ≡ syndrome n (upper k w) j
+      at-root : (j : ℕ) → j < k
+          → value k (cut k w ⊞ residue first n k w) (root first j) ≡ syndrome first n (upper k w) j
       at-root j h =
-          value-⊞ k _ _ (root j)
+          value-⊞ k _ _ (root first j)
           ∙ ap₂ _⊕_ (sym (low j))
-          (residue-first j h ∙ ap (λ (f : Series). syndrome n f j) (cut-drop k w) ∙ syndrome-⊞ n _ _ j)
+          (residue-syndrome j h ∙ ap (λ (f : Series). syndrome first n f j) (cut-drop k w) ∙ syndrome-⊞ first n _ _ j)
           ∙ simp ⊕-group

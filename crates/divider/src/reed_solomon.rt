@@ -1,6 +1,6 @@
 // One Reed-Solomon word: syndromes, check symbols, the remainder by the generator.
-// What the promises speak of stands in code's specs/Word.antt: `systematic n k w` is the word w with its k check
-// symbols in place.
+// What the promises speak of stands in code's specs/Word.antt: `systematic f n k w` is the word w with its k
+// check symbols in place, the first root being α^f.
 ghost use Prim.Native.Nat.{_+_, _-_, _≤_};
 ghost use mathlib.Core.Path.{_≡_};
 ghost use lib.ListN.{length};
@@ -14,11 +14,11 @@ ghost use Rattle.divider.specs.ReedSolomonResidue.{residue as Residue, R
 use crate::packed::Packed;
 use polynomial::SYNDROMES;
 
-// Makes the first k symbols of a word the check symbols of the others.
-pub fn encode(t: &[u64], k: usize, word: &mut [u8])
-    requires { ⌜ Table 0 k (now t) × (k ≤ 48) × (k ≤ length (now word)) ⌝ }
+// Makes the first k symbols of a word the check symbols of the others, for the k roots from α^first on.
+pub fn encode(t: &[u64], first: usize, k: usize, word: &mut [u8])
+    requires { ⌜ Table first k (now t) × (k ≤ 48) × (k ≤ length (now word)) ⌝ }
     ensures { λ _. ⌜ bytes (now (word .exit)) ≡
-        systematic (length (now (word .entry))) k (bytes (now (word .entry))) ⌝ }
+        systematic first (length (now (word .entry))) k (bytes (now (word .entry))) ⌝ }
 {
     let r = crate::division::remainder(t, word, k);
     let checks = crate::packed::unpack(r);
@@ -42,10 +42,10 @@ fn difference(word: &[u8], k: usize, r: Packed) -> [u8; SYNDROMES]
     out
 }
 
-// The remainder of a word by the generator of the k roots from `first` on, zeros from k on. It is zero exactly if these
+// The remainder of a word by the generator of the k roots from α^first on, zeros from k on. It is zero exactly if these
 // syndromes are.
 pub fn residue(t: &[u64], first: usize, k: usize, word: &[u8]) -> [u8; SYNDROMES]
-    requires { ⌜ Table first k (now t) × (first + k ≤ 48) × (k ≤ length (now word)) ⌝ }
+    requires { ⌜ Table first k (now t) × (k ≤ 48) × (k ≤ length (now word)) ⌝ }
     ensures { λ r. ⌜ bytes r ≡ Residue first (length (now (word .entry))) k (bytes (now (word .entry))) ⌝ }
 {
     difference(word, k, crate::division::remainder(t, word, k))
@@ -69,7 +69,7 @@ pub fn residues(
     c: &[u8],
     d: &[u8],
 ) -> FourResidues
-    requires { ⌜ Table first k (now t) × (first + k ≤ 48) × (k ≤ length (now a)) × (length (now b) ≡ length (now a))
+    requires { ⌜ Table first k (now t) × (k ≤ 48) × (k ≤ length (now a)) × (length (now b) ≡ length (now a))
         × (length (now c) ≡ length (now a)) × (length (now d) ≡ length (now a)) ⌝ }
     ensures { λ r. ⌜ Residual first k (now (a .entry)) (r .first) × Residual first k (now (b .entry)) (r .second)
         × Residual first k (now (c .entry)) (r .third) × Residual first k (now (d .entry)) (r .fourth) ⌝ }

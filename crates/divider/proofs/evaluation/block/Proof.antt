@@ -11,22 +11,16 @@ use Rattle.divider.proofs.evaluation.block.Statement.{statement}
 use Rattle.divider.proofs.evaluation.block.Tie as tie
 
 abbrev Inv-loop : tie.InvT-loop
-Inv-loop r i x v₀ p₀ v p = (p ≤ length r) × Horner (length r) (bytes r) x i p v
+Inv-loop x r i v₀ p₀ v p = (p ≤ length r) × Horner (length r) (bytes r) x i p v
 
 abbrev μ-loop : tie.MeasureT-loop
-μ-loop r i x v₀ p₀ v p = p
-
-roots-requires : tie.Need-roots-requires Inv-loop μ-loop
-roots-requires c κs = search needs
+μ-loop x r i v₀ p₀ v p = p
 
 loop-holds : tie.Need-loop-holds Inv-loop μ-loop
 loop-holds c = (search needs, lanes-none _ _ _ _ _ (read-zeros of 0 of-zero 32 _))
 
 sub-p : tie.Need-sub-p Inv-loop μ-loop
 sub-p c = search needs
-
-slice-aggregate-horner : tie.Need-slice-aggregate-horner Inv-loop μ-loop
-slice-aggregate-horner c = search needs
 
 shared-slice-read-horner : tie.Need-shared-slice-read-horner Inv-loop μ-loop
 shared-slice-read-horner c = search needs
@@ -39,7 +33,7 @@ loop-less c = search needs
 
 loop-again : tie.Need-loop-again Inv-loop μ-loop
 loop-again c =
-    let at-loop = c .before .before .before .before in
+    let at-loop = c .before .before .before in
     let now = at-loop .loop in
     let r = at-loop .before .before .before .args .r .now in (
       omega arith,
@@ -50,10 +44,8 @@ loop-again c =
 returns : tie.Need-returns Inv-loop μ-loop
 returns c =
     let end = c .before .loop in
-    let given = c .before .before .before .before in
     let e : end .p ≡ 0 = omega arith in
-    lanes-all (length (given .args .r .now)) _ (given .args .i) _ _ (given .pre)
-    (c .before .before .roots .ensures) (rw e at (end .inv .1))
+    lanes-all _ _ _ _ _ (rw e at (end .inv .1))
 
 pub block-spec : {M : Type 1} → statement M
 block-spec =
@@ -61,10 +53,8 @@ block-spec =
     (tie.spec
     Inv-loop
     μ-loop
-    roots-requires
     loop-holds
     sub-p
-    slice-aggregate-horner
     shared-slice-read-horner
     horner-requires
     loop-less

@@ -11,12 +11,12 @@ block-requires c κs = search needs
 
 returns : tie.Need-returns
 returns c =
-    let i = c .before .before .before .args .i in
+    let i = c .before .before .before .before .args .i in
     let e : i - i % 32 ≡ i = omega (arith, c .before .if1 .taken) in
     rw e (c .block .ensures)
 
 returns-2 : tie.Need-returns-2
-returns-2 c = c .before .before .pre .1 (omega (arith, c .if1 .left))
+returns-2 c = c .before .before .before .pre .2 (omega (arith, c .if1 .left))
 
 pub lanes-spec : {M : Type 1} → statement M
 lanes-spec =

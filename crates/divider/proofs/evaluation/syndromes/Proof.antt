@@ -30,7 +30,7 @@ returns c =
     let residue = at-residue .residue in
     let long : length (residue .result) ≡ 48 = search needs in
     c .at-roots .ensures
-    ∙ residue-syndromes (length (given .args .word .now)) (given .args .k) _
+    ∙ residue-syndromes (given .args .first) (length (given .args .word .now)) (given .args .k) _
     (omega (arith, given .pre .1)) (residue .result)
     (omega (arith, long, given .pre .1)) (residue .ensures)
 

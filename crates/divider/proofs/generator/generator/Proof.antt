@@ -96,7 +96,7 @@ loop-again c =
     let up = at-up .zech in
     let down = at-down .zech2 in
     let less : now .j < k = turn .loop-test .taken in
-    let small = given .pre in
+    let small = given .pre .1 in
     let next =
     power-mod _ ∙ exponent-more first k (now .j) (now .e .0) (up .result .0) (down .result .0) less
     (omega (arith, down .ensures .1)) (now .inv .3) (up .ensures .0) (down .ensures .0) in (

@@ -8,7 +8,7 @@ use Rattle.divider.proofs.generator.prepare.Tie as tie
 returns : tie.Need-returns
 returns c =
     let given = c .before .before in
-    table-for (c .if1 .taken) (given .pre .0 .table (omega (arith, given .pre .1, c .if1 .taken)))
+    table-for (c .if1 .taken) (given .pre .0 .table (omega (arith, given .pre .2, c .if1 .taken)))
 
 table-requires : tie.Need-table-requires
 table-requires c κs = search needs

@@ -53,8 +53,8 @@ returns c =
     let at-remainder = checks .before in
     let given = at-remainder .before .before .before .before in
     let long : length (checks .unpack .result) ≡ 48 = search needs in
-    encoded (given .args .k) (given .args .t .now) (checks .unpack .result) _ (given .args .word .now)
-    (given .pre .1) (given .pre .2) (given .pre .0) long
+    encoded (given .args .first) (given .args .k) (given .args .t .now) (checks .unpack .result) _
+    (given .args .word .now) (given .pre .1) (given .pre .2) (given .pre .0) long
     (checks .unpack .ensures ∙ at-remainder .remainder .ensures) (copied .copy .ensures)
 
 pub encode-spec : {M : Type 1} → statement M
