@@ -126,7 +126,8 @@ returns c =
     (next _ (asked4 .ask4 .ensures) refl (asked4 .before .capabilities .ensures)
     (next _ (asked3 .ask3 .ensures) refl (asked3 .before .nested .ensures)
     (next _ (asked2 .ask2 .ensures) refl (asked2 .before .subwords .ensures)
-    (asked1 .ask .ensures ∙ ap (λ g. put true g ProfileSize (Accepted (given .p))) (asked1 .before .size .ensures))))))))))))
+    (asked1 .ask .ensures
+    ∙ ap (λ g. put true g ProfileSize (Accepted (given .p))) (asked1 .before .size .ensures))))))))))))
     ∙ sym (asked-in-order (given .caller) l (given .p))
 
 pub judge-spec : {M : Type 1} → statement M
