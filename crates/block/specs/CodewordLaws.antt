@@ -5,7 +5,7 @@
 -- codeword exactly if those from there on are (check-passes, check-fails); a nested word's further syndromes are the
 -- values of its remainder (word-syndrome).
 use Prim.Native.Nat.{ℕ, zero, suc, _+_, _-_, _*_, _≤_, _<_}
-use mathlib.Core.Path.{_≡_, sym, ap, _∙_, subst}
+use mathlib.Core.Path.{_≡_, sym, ap, _∙_}
 use mathlib.Core.Logic.{_≢_}
 use mathlib.Core.Bool.{true, false, true≢false, decide-iff}
 use mathlib.Core.List.{List, [], _∷_}
@@ -22,10 +22,10 @@ use Rattle.series.specs.Array.{bytes}
 use Rattle.series.specs.Decide.{holds, holds-yes, holds-no}
 use Rattle.polynomial.specs.Polynomial.{row}
 use Rattle.profile.specs.declared.Profile.{Profile}
-use Rattle.profile.specs.Definition.{capability, checks}
-use Rattle.profile.specs.Valid.{Valid, checks-is, checks-mono, checks-least, checks-most}
-use Rattle.divider.specs.GeneratorTable.{Table}
+use Rattle.profile.specs.Definition.{capability, first-root, checks}
+use Rattle.profile.specs.Valid.{Valid, checks-is, checks-mono, checks-most}
 use Rattle.code.specs.Word.{syndrome}
+use Rattle.code.specs.Systematic.{syndrome-from}
 use Rattle.divider.specs.ReedSolomonResidue.{residue, Residual, residue-array}
 use Rattle.code.specs.Definition.{nested, Codeword}
 use Rattle.code.specs.Block.{syndrome-nested}
@@ -61,17 +61,15 @@ not-zeros p s t is e =
 
 -- ---- the nested words
 
-pub roots-for : {first k j : ℕ} {t : List ℕ} → k ≡ j → Table first k t → Table first j t
-roots-for {first} {t = t} e = subst (λ k. Table first k t) e
-
 -- a nested word that stands in an array, and its remainder
 pub residual-left : (p : Profile) (s : Series) (l k : ℕ) (w x : List ℕ) → p .length ≤ length w → k ≡ further p
     → (l < p .nested → bytes w ≡ cut (p .length) (nested p s l))
-    → Residual (2 * p .t0) k (take (p .length) w) x → l < p .nested → (length x ≡ 48) × (bytes x ≡ left p s l)
+    → Residual (first-root p + 2 * p .t0) k (take (p .length) w) x → l < p .nested
+    → (length x ≡ 48) × (bytes x ≡ left p s l)
 residual-left p s l k w x room count word r low = (
   r .long,
-  r .is ∙ prefix-residue (2 * p .t0) (p .length) k w (nested p s l) room (word low)
-      ∙ ap (λ k. residue (2 * p .t0) (p .length) k (nested p s l)) count,
+  r .is ∙ prefix-residue (first-root p + 2 * p .t0) (p .length) k w (nested p s l) room (word low)
+      ∙ ap (λ k. residue (first-root p + 2 * p .t0) (p .length) k (nested p s l)) count,
 )
 
 pub three-rows : (p : Profile) (s : Series) (x y z : List ℕ) → Valid p
@@ -85,7 +83,7 @@ three-rows p s x y z ok hx hy hz (suc (suc zero)) low = hz low
 three-rows p s x y z ok hx hy hz (suc (suc (suc l))) low = absurd (omega (arith, ok .nested))
 
 module _ (p : Profile) (s : Series) (inner : Subwords p s) where
-  nested-low : (l j : ℕ) → j < 2 * p .t0 → syndrome (p .length) (nested p s l) j ≡ 𝟎
+  nested-low : (l j : ℕ) → j < 2 * p .t0 → syndrome (first-root p) (p .length) (nested p s l) j ≡ 𝟎
   nested-low l j h =
       syndrome-nested p s l j ∙ sum-zero (p .subwords) _ (λ i u. ap (λ x. pow α (i * l) ⊙ x) (inner i u j h) ∙ ⊙-zero _)
 
@@ -96,7 +94,7 @@ module _ (p : Profile) (s : Series) (inner : Subwords p s) where
   }))
     where
       go : (l : ℕ) → l < p .nested → (j : ℕ) → j < 2 * capability p (p .nested - l) → Dec (j < 2 * p .t0)
-          → syndrome (p .length) (nested p s l) j ≡ 𝟎
+          → syndrome (first-root p) (p .length) (nested p s l) j ≡ 𝟎
       go l u j q (yes low) = nested-low l j low
       go l u j q (no high) = h l u j (omega arith) (omega (arith, checks-is p l))
 
@@ -104,17 +102,25 @@ module _ (p : Profile) (s : Series) (inner : Subwords p s) where
 module _ (p : Profile) (s : Series) (ok : Valid p) (l k c : ℕ) (r : List ℕ) (x : List Gf) (count : k ≡ further p)
     (asked : c ≡ checks p l)
     (holds-left : (length r ≡ 48) × (bytes r ≡ left p s l))
-    (is : row x ≡ cut c (syndrome (length (take k r)) (bytes (take k r)))) where
-  pub word-syndrome : (j : ℕ) → 2 * p .t0 ≤ j → j < checks p l → row x j ≡ syndrome (p .length) (nested p s l) j
+    (is : row x ≡ cut c (syndrome (first-root p) (length (take k r)) (bytes (take k r)))) where
+  -- number i from number 2 t0 on
+  further-syndrome : (i : ℕ) → i < further p
+      → syndrome (first-root p) (length (take (further p) r)) (bytes (take (further p) r)) (2 * p .t0 + i)
+      ≡ syndrome (first-root p) (p .length) (nested p s l) (2 * p .t0 + i)
+  further-syndrome i h =
+      syndrome-from (first-root p) (2 * p .t0) _ _ i
+      ∙ residue-array (first-root p + 2 * p .t0) (p .length) (further p) (nested p s l)
+      (omega (arith, checks-most p ok 0)) r (omega (arith, holds-left .0, checks-most p ok 0)) (holds-left .1) i h
+      ∙ sym (syndrome-from (first-root p) (2 * p .t0) _ _ i)
+
+  pub word-syndrome : (j : ℕ) → 2 * p .t0 ≤ j → j < checks p l
+      → row x j ≡ syndrome (first-root p) (p .length) (nested p s l) j
   word-syndrome j low h =
       let e : 2 * p .t0 + (j - 2 * p .t0) ≡ j = omega arith in
       ap (λ (f : Series). f j) is
       ∙ cut-low c _ j (omega (arith, asked))
-      ∙ ap (λ k. syndrome (length (take k r)) (bytes (take k r)) j) count
-      ∙ (rw e at (residue-array (2 * p .t0) (p .length) (further p) (nested p s l)
-      (omega (arith, checks-least p ok 0, checks-most p ok 0)) r
-      (omega (arith, holds-left .0, checks-most p ok 0)) (holds-left .1) (j - 2 * p .t0)
-      (omega (arith, checks-mono p ok 0 l (omega arith)))))
+      ∙ ap (λ k. syndrome (first-root p) (length (take k r)) (bytes (take k r)) j) count
+      ∙ (rw e at (further-syndrome (j - 2 * p .t0) (omega (arith, checks-mono p ok 0 l (omega arith)))))
 
   pub check-fails : (j : ℕ) → l < p .nested → 2 * p .t0 ≤ j → j < checks p l → row x j ≢ 𝟎
       → false ≡ holds (codeword? p s)

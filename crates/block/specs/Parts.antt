@@ -60,15 +60,16 @@ part-at : (n i k : ℕ) (b : List ℕ) → k ≡ n → i * n + n ≤ length b �
     → bytes (take k (drop (i * n) b)) q ≡ subword n (bytes b) i q
 part-at n i k b e h q l = ap (λ (f : Series). f q) (part-is n i k b e h) ∙ cut-low n _ q l
 
-pub part-syndrome : (n i k : ℕ) (b : List ℕ) → k ≡ n → i * n + n ≤ length b
-    → syndrome (length (take k (drop (i * n) b))) (bytes (take k (drop (i * n) b))) ≡ syndrome n (subword n (bytes b) i)
-part-syndrome n i k b e h =
-    ap (λ l. syndrome l (bytes (take k (drop (i * n) b)))) (part-length n i k b e h)
-    ∙ fun-ext (syndrome-cong n _ _ (part-at n i k b e h))
+pub part-syndrome : (first n i k : ℕ) (b : List ℕ) → k ≡ n → i * n + n ≤ length b
+    → syndrome first (length (take k (drop (i * n) b))) (bytes (take k (drop (i * n) b)))
+    ≡ syndrome first n (subword n (bytes b) i)
+part-syndrome first n i k b e h =
+    ap (λ l. syndrome first l (bytes (take k (drop (i * n) b)))) (part-length n i k b e h)
+    ∙ fun-ext (syndrome-cong first n _ _ (part-at n i k b e h))
 
-pub part-residue : (n i k : ℕ) (b : List ℕ) (r : ℕ) → k ≡ n → i * n + n ≤ length b
-    → residue 0 (length (take k (drop (i * n) b))) r (bytes (take k (drop (i * n) b)))
-    ≡ residue 0 n r (subword n (bytes b) i)
-part-residue n i k b r e h =
-    ap (λ l. residue 0 l r (bytes (take k (drop (i * n) b)))) (part-length n i k b e h)
-    ∙ residue-cong 0 n r _ _ (part-at n i k b e h)
+pub part-residue : (first n i k : ℕ) (b : List ℕ) (r : ℕ) → k ≡ n → i * n + n ≤ length b
+    → residue first (length (take k (drop (i * n) b))) r (bytes (take k (drop (i * n) b)))
+    ≡ residue first n r (subword n (bytes b) i)
+part-residue first n i k b r e h =
+    ap (λ l. residue first l r (bytes (take k (drop (i * n) b)))) (part-length n i k b e h)
+    ∙ residue-cong first n r _ _ (part-at n i k b e h)

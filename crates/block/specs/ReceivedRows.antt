@@ -19,6 +19,7 @@ use Rattle.series.specs.Shift.{cut}
 use Rattle.series.specs.Array.{bytes}
 use Rattle.polynomial.specs.Polynomial.{row}
 use Rattle.profile.specs.declared.Profile.{Profile}
+use Rattle.profile.specs.Definition.{first-root}
 use Rattle.code.specs.Word.{syndrome}
 use Rattle.divider.specs.ReedSolomonResidue.{residue, Residual}
 use Rattle.code.specs.Definition.{subword}
@@ -27,7 +28,7 @@ use Rattle.block.specs.Table.{table, rows-more}
 use Rattle.code.specs.Check.{rows}
 
 abbrev pub row-of : Profile → Series → ℕ → Series
-row-of p s i = cut (2 * p .t0) (syndrome (p .length) (subword (p .length) s i))
+row-of p s i = cut (2 * p .t0) (syndrome (first-root p) (p .length) (subword (p .length) s i))
 
 abbrev pub FirstRows : Profile → Series → ℕ → List (List Gf) → Type 0
 FirstRows p s i r = (length r ≡ 8) × (table r ≡ rows i (row-of p s))
@@ -76,10 +77,11 @@ four-parts p b i f h = record {
 -- the remainder of subword i, which stands from a on
 pub part-row : (p : Profile) (b : List ℕ) (i a k q : ℕ) (x : List ℕ) (y : List Gf)
     → a ≡ i * p .length → k ≡ p .length → q ≡ 2 * p .t0
-    → i * p .length + p .length ≤ length b → Residual 0 q (take k (drop a b)) x
-    → ((n : ℕ) (w : Series) → bytes x ≡ residue 0 n q w → row y ≡ cut q (syndrome n w)) → row y ≡ row-of p (bytes b) i
+    → i * p .length + p .length ≤ length b → Residual (first-root p) q (take k (drop a b)) x
+    → ((n : ℕ) (w : Series) → bytes x ≡ residue (first-root p) n q w → row y ≡ cut q (syndrome (first-root p) n w))
+    → row y ≡ row-of p (bytes b) i
 part-row p b i a k q x y start size count inside r from =
     from (p .length) (subword (p .length) (bytes b) i)
-    (r .is ∙ ap (λ a. residue 0 (length (take k (drop a b))) q (bytes (take k (drop a b)))) start
-    ∙ part-residue (p .length) i k b q size inside)
-    ∙ ap (λ q. cut q (syndrome (p .length) (subword (p .length) (bytes b) i))) count
+    (r .is ∙ ap (λ a. residue (first-root p) (length (take k (drop a b))) q (bytes (take k (drop a b)))) start
+    ∙ part-residue (first-root p) (p .length) i k b q size inside)
+    ∙ ap (λ q. cut q (syndrome (first-root p) (p .length) (subword (p .length) (bytes b) i))) count

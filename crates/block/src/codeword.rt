@@ -34,12 +34,13 @@ pub fn tables(p: Profile, t: &mut [u64], u: &mut [u64])
     requires { ⌜ Valid p × (length (now t) ≡ 1536) × (length (now u) ≡ 1536) ⌝ }
     ensures { λ _. ⌜ Tables p (now (t .exit)) (now (u .exit)) ⌝ }
 {
-    let first = 2 * p.t0 as usize;
-    divider::generator::table(0, first, t);
+    let first = p.first_root as usize;
+    let k = 2 * p.t0 as usize;
+    divider::generator::table(first, k, t);
     if p.nested == 0 {
         return;
     }
-    divider::generator::table(first, further(p), u);
+    divider::generator::table(first + k, further(p), u);
 }
 
 // Whether a table of syndromes is zero.
@@ -79,7 +80,7 @@ fn remainders(p: Profile, u: &[u64], block: &[u8]) -> [[u8; SYNDROMES]; NESTED]
         return out;
     }
     let n = p.length as usize;
-    let first = 2 * p.t0 as usize;
+    let first = p.first_root as usize + 2 * p.t0 as usize;
     let a = word(p, block, 0);
     let b = word(p, block, 1);
     let c = word(p, block, 2);
@@ -110,7 +111,8 @@ pub fn is_codeword(p: Profile, u: &[u64], block: &[u8]) -> bool
     ensures { λ r. ⌜ r ≡ holds (codeword? p (bytes (now (block .entry)))) ⌝ }
 {
     let v = p.nested as usize;
-    let first = 2 * p.t0 as usize;
+    let first = p.first_root as usize;
+    let low = 2 * p.t0 as usize;
     let k = further(p);
     let rows = remainders(p, u, block);
     let mut clean = true;
@@ -118,8 +120,8 @@ pub fn is_codeword(p: Profile, u: &[u64], block: &[u8]) -> bool
     'sums: while l < v {
         let r = rows[l];
         let checks = p.checks(l as u8) as usize;
-        let row = divider::evaluation::at_roots(&r[..k], checks);
-        let mut j: usize = first;
+        let row = divider::evaluation::at_roots(first, &r[..k], checks);
+        let mut j: usize = low;
         while j < checks {
             let s = row[j];
             if !s.is_zero() {

@@ -18,18 +18,18 @@ use Rattle.block.proofs.codeword.is_codeword.Statement.{statement}
 use Rattle.block.proofs.codeword.is_codeword.Tie as tie
 
 abbrev Inv-loop : tie.InvT-loop
-Inv-loop p u block v first k rows clean₀ l checks x j₀ clean j = (first ≤ j) × (clean ≡ true)
-    × ((i : ℕ) → i < j → first ≤ i → row x i ≡ 𝟎)
+Inv-loop p u block v first low k rows clean₀ l checks x j₀ clean j = (low ≤ j) × (clean ≡ true)
+    × ((i : ℕ) → i < j → low ≤ i → row x i ≡ 𝟎)
 
 abbrev μ-loop : tie.MeasureT-loop
-μ-loop p u block v first k rows clean₀ l checks x j₀ clean j = checks - j
+μ-loop p u block v first low k rows clean₀ l checks x j₀ clean j = checks - j
 
 abbrev Inv-sums : tie.InvT-sums
-Inv-sums p u block v first k rows clean₀ l₀ clean l = (l ≤ v) × (clean ≡ true)
+Inv-sums p u block v first low k rows clean₀ l₀ clean l = (l ≤ v) × (clean ≡ true)
     × ((a : ℕ) → a < l → Vanish p (bytes block) a)
 
 abbrev μ-sums : tie.MeasureT-sums
-μ-sums p u block v first k rows clean₀ l₀ clean l = v - l
+μ-sums p u block v first low k rows clean₀ l₀ clean l = v - l
 
 cast-v : tie.Need-cast-v Inv-loop μ-loop Inv-sums μ-sums
 cast-v c = search needs
@@ -37,16 +37,19 @@ cast-v c = search needs
 cast-first : tie.Need-cast-first Inv-loop μ-loop Inv-sums μ-sums
 cast-first c = search needs
 
-mul-first : tie.Need-mul-first Inv-loop μ-loop Inv-sums μ-sums
-mul-first c = search needs
+cast-low : tie.Need-cast-low Inv-loop μ-loop Inv-sums μ-sums
+cast-low c = search needs
+
+mul-low : tie.Need-mul-low Inv-loop μ-loop Inv-sums μ-sums
+mul-low c = search needs
 
 further-requires : tie.Need-further-requires Inv-loop μ-loop Inv-sums μ-sums
 further-requires c κs = search needs
 
 remainders-requires : tie.Need-remainders-requires Inv-loop μ-loop Inv-sums μ-sums
 remainders-requires c κs =
-    let at-shared-slice-known = c .before .before .before .before in
-    let given = at-shared-slice-known .before in
+    let at-shared-slice-known2 = c .before .before .before .before in
+    let given = at-shared-slice-known2 .before .before in
     (given .pre .0, given .pre .2)
 
 sums-holds : tie.Need-sums-holds Inv-loop μ-loop Inv-sums μ-sums
@@ -54,8 +57,9 @@ sums-holds c = (omega arith, refl, below-none _)
 
 mul-r : tie.Need-mul-r Inv-loop μ-loop Inv-sums μ-sums
 mul-r c =
-    let at-struct-known2 = c .before .before .before .before in
-    let given = at-struct-known2 .before .before .before .before in
+    let at-struct-known3 = c .before .before .before .before in
+    let at-struct-known = at-struct-known3 .before .before in
+    let given = at-struct-known .before .before .before in
     record {
       fits = omega (
         arith,
@@ -66,8 +70,9 @@ mul-r c =
 
 array-copy-out-r : tie.Need-array-copy-out-r Inv-loop μ-loop Inv-sums μ-sums
 array-copy-out-r c =
-    let at-struct-known2 = c .before .before .before .before in
-    let given = at-struct-known2 .before .before .before .before in
+    let at-struct-known3 = c .before .before .before .before in
+    let at-struct-known = at-struct-known3 .before .before in
+    let given = at-struct-known .before .before .before in
     omega (
       arith,
       given .pre .0 .valid .nested,
@@ -77,8 +82,9 @@ array-copy-out-r c =
 cast-checks : tie.Need-cast-checks Inv-loop μ-loop Inv-sums μ-sums
 cast-checks c =
     let at-sums-test = c .before in
-    let at-struct-known2 = at-sums-test .before .before .before .before in
-    let given = at-struct-known2 .before .before .before .before in
+    let at-struct-known3 = at-sums-test .before .before .before .before in
+    let at-struct-known = at-struct-known3 .before .before in
+    let given = at-struct-known .before .before .before in
     record {
       fits = omega (
         arith,
@@ -98,8 +104,8 @@ array-share-prefix-r c =
     let at-sums = c .before .before .before in
     let at-remainders = at-sums .before in
     let at-further = at-remainders .before in
-    let at-shared-slice-known = at-further .before .before .before .before in
-    let given = at-shared-slice-known .before in
+    let at-shared-slice-known2 = at-further .before .before .before .before in
+    let given = at-shared-slice-known2 .before .before in
     let left = at-remainders .remainders .ensures (at-sums .sums .l)
     (c .before .before .sums-test .taken) in
     omega (
@@ -115,8 +121,8 @@ slice-aggregate-at-roots c =
     let at-sums = at-sums-test .before in
     let at-remainders = at-sums .before in
     let at-further = at-remainders .before in
-    let at-shared-slice-known = at-further .before .before .before .before in
-    let given = at-shared-slice-known .before in
+    let at-shared-slice-known2 = at-further .before .before .before .before in
+    let given = at-shared-slice-known2 .before .before in
     let left = at-remainders .remainders .ensures
     (at-sums .sums .l) (at-sums-test .sums-test .taken) in
     sym (length-take-le (at-further .further .result) _ (omega (
@@ -129,8 +135,8 @@ slice-aggregate-at-roots c =
 at-roots-requires : tie.Need-at-roots-requires Inv-loop μ-loop Inv-sums μ-sums
 at-roots-requires c κs =
     let at-sums = c .before .before .before .before in
-    let at-struct-known = at-sums .before .before .before .before in
-    let given = at-struct-known .before .before .before in
+    let at-struct-known2 = at-sums .before .before .before .before in
+    let given = at-struct-known2 .before .before .before .before in
     omega (
       arith,
       c .before .checks .ensures,
@@ -147,8 +153,8 @@ array-copy-out-s : tie.Need-array-copy-out-s Inv-loop μ-loop Inv-sums μ-sums
 array-copy-out-s c =
     let at-checks = c .before .before .before .before in
     let at-sums = at-checks .before .before .before in
-    let at-struct-known = at-sums .before .before .before .before in
-    let given = at-struct-known .before .before .before in
+    let at-struct-known2 = at-sums .before .before .before .before in
+    let given = at-struct-known2 .before .before .before .before in
     omega (
       arith,
       c .loop-test .taken,
@@ -172,8 +178,8 @@ loop-again c =
     let at-loop = at-loop-test .before in
     let at-checks = at-loop .before .before .before in
     let at-sums = at-checks .before .before .before in
-    let at-struct-known = at-sums .before .before .before .before in
-    let given = at-struct-known .before .before .before in
+    let at-struct-known2 = at-sums .before .before .before .before in
+    let given = at-struct-known2 .before .before .before .before in
     let now = at-loop .loop in
     let zero = isZero-true _ (sym (c .before .is-zero .ensures) ∙ meets _ (c .if1 .left)) in
     let small : now .j < 48 = omega (
@@ -198,8 +204,8 @@ sums-again c =
     let at-sums = at-sums-test .before in
     let at-remainders = at-sums .before in
     let at-further = at-remainders .before in
-    let at-shared-slice-known = at-further .before .before .before .before in
-    let given = at-shared-slice-known .before in
+    let at-shared-slice-known2 = at-further .before .before .before .before in
+    let given = at-shared-slice-known2 .before .before in
     let end = c .before .loop in
     let now = at-sums .sums in
     let p = given .args .p in
@@ -216,8 +222,9 @@ sums-again c =
 
 returns : tie.Need-returns Inv-loop μ-loop Inv-sums μ-sums
 returns c =
-    let at-struct-known2 = c .before .before .before .before in
-    let given = at-struct-known2 .before .before .before .before in
+    let at-struct-known3 = c .before .before .before .before in
+    let at-struct-known = at-struct-known3 .before .before in
+    let given = at-struct-known .before .before .before in
     let end = c .before .sums in
     end .inv .1
     ∙ check-passes (given .args .p) _ (given .pre .1) (λ l h. end .inv .2 l (omega (arith, c .sums-test .left)))
@@ -232,8 +239,8 @@ returns-2 c =
     let at-sums = at-sums-test .before in
     let at-remainders = at-sums .before in
     let at-further = at-remainders .before in
-    let at-shared-slice-known = at-further .before .before .before .before in
-    let given = at-shared-slice-known .before in
+    let at-shared-slice-known2 = at-further .before .before .before .before in
+    let given = at-shared-slice-known2 .before .before in
     let now = at-loop .loop in
     let l = at-sums .sums .l in
     let p = given .args .p in
@@ -259,7 +266,8 @@ is-codeword-spec =
     μ-sums
     cast-v
     cast-first
-    mul-first
+    cast-low
+    mul-low
     further-requires
     remainders-requires
     sums-holds

@@ -5,8 +5,9 @@ use native.Mathlib.Omega.{arith}
 use lib.ListN.{length, replicate}
 use lib.Seq.{length-take-le}
 use Rattle.series.specs.Array.{bytes}
-use Rattle.profile.specs.Valid.{checks-least, checks-most, checks-below}
-use Rattle.block.specs.CodewordLaws.{roots-for, residual-left, three-rows}
+use Rattle.profile.specs.Valid.{checks-most, checks-below}
+use Rattle.divider.specs.GeneratorTable.{table-for}
+use Rattle.block.specs.CodewordLaws.{residual-left, three-rows}
 use borrow.Author.Needs.{needs}
 use Rattle.block.proofs.codeword.remainders.Statement.{statement}
 use Rattle.block.proofs.codeword.remainders.Tie as tie
@@ -20,31 +21,39 @@ cast-n c = search needs
 cast-first : tie.Need-cast-first
 cast-first c = search needs
 
+cast-first-2 : tie.Need-cast-first-2
+cast-first-2 c = search needs
+
 mul-first : tie.Need-mul-first
 mul-first c = search needs
 
+add-first : tie.Need-add-first
+add-first c = search needs
+
 word-requires : tie.Need-word-requires
 word-requires c κs =
-    let at-if1 = c .before .before in
+    let at-if1 = c .before .before .before in
     let given = at-if1 .before .before .before .before in
     given .pre .0
 
 word-requires-2 : tie.Need-word-requires-2
 word-requires-2 c κs =
-    let at-if1 = c .before .before .before in
+    let at-if1 = c .before .before .before .before in
     let given = at-if1 .before .before .before .before in
     given .pre .0
 
 word-requires-3 : tie.Need-word-requires-3
 word-requires-3 c κs =
-    let at-if1 = c .before .before .before .before in
+    let at-word = c .before in
+    let at-if1 = at-word .before .before .before .before in
     let given = at-if1 .before .before .before .before in
     given .pre .0
 
 further-requires : tie.Need-further-requires
 further-requires c κs =
     let at-word2 = c .before in
-    let at-if1 = at-word2 .before .before .before .before in
+    let at-word = at-word2 .before in
+    let at-if1 = at-word .before .before .before .before in
     let given = at-if1 .before .before .before .before in
     given .pre .0 .valid
 
@@ -54,7 +63,7 @@ array-share-prefix-a c = search needs
 slice-aggregate-residues : tie.Need-slice-aggregate-residues
 slice-aggregate-residues c =
     let at-word = c .before .before .before .before in
-    let at-if1 = at-word .before .before .before in
+    let at-if1 = at-word .before .before .before .before in
     let given = at-if1 .before .before .before .before in
     let ok = given .pre .0 .valid in
     let long = at-word .word .ensures .0 in
@@ -68,7 +77,8 @@ array-share-prefix-b c = search needs
 slice-aggregate-residues-2 : tie.Need-slice-aggregate-residues-2
 slice-aggregate-residues-2 c =
     let at-word2 = c .before .before .before .before in
-    let at-if1 = at-word2 .before .before .before .before in
+    let at-word = at-word2 .before in
+    let at-if1 = at-word .before .before .before .before in
     let given = at-if1 .before .before .before .before in
     let ok =
     given .pre .0 .valid in
@@ -84,7 +94,8 @@ slice-aggregate-residues-3 : tie.Need-slice-aggregate-residues-3
 slice-aggregate-residues-3 c =
     let at-word3 = c .before .before .before .before in
     let at-word2 = at-word3 .before in
-    let at-if1 = at-word2 .before .before .before .before in
+    let at-word = at-word2 .before in
+    let at-if1 = at-word .before .before .before .before in
     let given = at-if1 .before .before .before .before in
     let ok = given .pre .0 .valid in
     let long = at-word3 .word3 .ensures .0 in
@@ -97,7 +108,7 @@ slice-aggregate-residues-4 : tie.Need-slice-aggregate-residues-4
 slice-aggregate-residues-4 c =
     let at-further = c .before .before .before .before in
     let at-word = at-further .before .before .before in
-    let at-if1 = at-word .before .before .before in
+    let at-if1 = at-word .before .before .before .before in
     let given = at-if1 .before .before .before .before in
     sym (length-take-le (given .args .p .length) _ (given .pre .0 .valid .length .1))
 
@@ -107,7 +118,7 @@ residues-requires c κs =
     let at-word3 = at-further .before in
     let at-word2 = at-word3 .before in
     let at-word = at-word2 .before in
-    let at-if1 = at-word .before .before .before in
+    let at-if1 = at-word .before .before .before .before in
     let given = at-if1 .before .before .before .before in
     let p = given .args .p in
     let n = p .length in
@@ -124,8 +135,8 @@ residues-requires c κs =
     let size3 =
     length-take-le n (at-word3 .word3 .result) (omega (arith, long3, room)) in
     let size4 = length-take-le n (replicate {A = ℕ} 255 0) room in (
-      roots-for (sym k) (given .pre .1 (omega arith)),
-      omega (arith, checks-least p ok 0, checks-most p ok 0, k),
+      table-for (sym k) (given .pre .1 (omega arith)),
+      omega (arith, checks-most p ok 0, k),
       omega (arith, checks-below p ok 0, k, size1),
       size2 ∙ sym size1,
       size3 ∙ sym size1,
@@ -149,7 +160,7 @@ returns-2 c =
     let at-word3 = at-further .before in
     let at-word2 = at-word3 .before in
     let at-word = at-word2 .before in
-    let at-if1 = at-word .before .before .before in
+    let at-if1 = at-word .before .before .before .before in
     let given = at-if1 .before .before .before .before in
     let p = given .args .p in
     let s = bytes (given .args .block .now) in
@@ -182,7 +193,9 @@ remainders-spec =
     returns
     cast-n
     cast-first
+    cast-first-2
     mul-first
+    add-first
     word-requires
     word-requires-2
     word-requires-3

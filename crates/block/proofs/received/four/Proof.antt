@@ -13,6 +13,9 @@ use Rattle.block.proofs.received.four.Tie as tie
 cast-n : tie.Need-cast-n
 cast-n c = search needs
 
+cast-first : tie.Need-cast-first
+cast-first c = search needs
+
 cast-k : tie.Need-cast-k
 cast-k c = search needs
 
@@ -21,32 +24,37 @@ mul-k c = search needs
 
 mul-a : tie.Need-mul-a
 mul-a c =
-    let four = four-parts _ _ (c .before .before .before .before .args .i)
-    (c .before .before .before .before .pre .0) (c .before .before .before .before .pre .2) in
+    let at-shared-slice-known2 = c .before .before .before in
+    let given = at-shared-slice-known2 .before .before in
+    let four = four-parts _ _ (given .args .i) (given .pre .0) (given .pre .2) in
     record { fits = omega (arith, four .inside, four .small) }
 
 add-b : tie.Need-add-b
 add-b c =
-    let four = four-parts _ _ (c .before .before .before .before .args .i)
-    (c .before .before .before .before .pre .0) (c .before .before .before .before .pre .2) in
+    let at-shared-slice-known2 = c .before .before .before in
+    let given = at-shared-slice-known2 .before .before in
+    let four = four-parts _ _ (given .args .i) (given .pre .0) (given .pre .2) in
     record { fits = omega (arith, four .inside, four .small) }
 
 add-c : tie.Need-add-c
 add-c c =
-    let four = four-parts _ _ (c .before .before .before .before .args .i)
-    (c .before .before .before .before .pre .0) (c .before .before .before .before .pre .2) in
+    let at-shared-slice-known2 = c .before .before .before in
+    let given = at-shared-slice-known2 .before .before in
+    let four = four-parts _ _ (given .args .i) (given .pre .0) (given .pre .2) in
     record { fits = omega (arith, four .inside, four .small) }
 
 add-d : tie.Need-add-d
 add-d c =
-    let four = four-parts _ _ (c .before .before .before .before .args .i)
-    (c .before .before .before .before .pre .0) (c .before .before .before .before .pre .2) in
+    let at-shared-slice-known2 = c .before .before .before in
+    let given = at-shared-slice-known2 .before .before in
+    let four = four-parts _ _ (given .args .i) (given .pre .0) (given .pre .2) in
     record { fits = omega (arith, four .inside, four .small) }
 
 add-e : tie.Need-add-e
 add-e c =
-    let four = four-parts _ _ (c .before .before .before .before .args .i)
-    (c .before .before .before .before .pre .0) (c .before .before .before .before .pre .2) in
+    let at-shared-slice-known2 = c .before .before .before in
+    let given = at-shared-slice-known2 .before .before in
+    let four = four-parts _ _ (given .args .i) (given .pre .0) (given .pre .2) in
     record { fits = omega (arith, four .inside, four .small) }
 
 sub-residues : tie.Need-sub-residues
@@ -56,11 +64,10 @@ part-residues-start : tie.Need-part-residues-start
 part-residues-start c = search needs
 
 part-residues-end : tie.Need-part-residues-end
-part-residues-end c = omega (
-  arith,
-  (four-parts _ _ (c .before .before .before .before .args .i) (c .before .before .before .before .pre .0)
-      (c .before .before .before .before .pre .2)) .inside,
-)
+part-residues-end c =
+    let at-shared-slice-known2 = c .before .before .before in
+    let given = at-shared-slice-known2 .before .before in
+    omega (arith, (four-parts _ _ (given .args .i) (given .pre .0) (given .pre .2)) .inside)
 
 sub-residues-2 : tie.Need-sub-residues-2
 sub-residues-2 c = search needs
@@ -70,8 +77,8 @@ part-residues-start-2 c = search needs
 
 part-residues-end-2 : tie.Need-part-residues-end-2
 part-residues-end-2 c =
-    let at-shared-slice-known = c .before .before .before .before in
-    let given = at-shared-slice-known .before in
+    let at-shared-slice-known2 = c .before .before .before .before in
+    let given = at-shared-slice-known2 .before .before in
     omega (
       arith,
       (four-parts _ _ (given .args .i)
@@ -86,8 +93,8 @@ part-residues-start-3 c = search needs
 
 part-residues-end-3 : tie.Need-part-residues-end-3
 part-residues-end-3 c =
-    let at-shared-slice-known2 = c .before .before .before .before in
-    let given = at-shared-slice-known2 .before .before in
+    let at-struct-known = c .before .before .before .before in
+    let given = at-struct-known .before .before .before in
     omega (
       arith,
       (four-parts _ _ (given .args .i)
@@ -103,8 +110,8 @@ part-residues-start-4 c = search needs
 
 part-residues-end-4 : tie.Need-part-residues-end-4
 part-residues-end-4 c =
-    let at-struct-known = c .before .before .before .before in
-    let given = at-struct-known .before .before .before in
+    let at-struct-known2 = c .before .before .before .before in
+    let given = at-struct-known2 .before .before .before .before in
     omega (
       arith,
       (four-parts _ _ (given .args .i)
@@ -114,8 +121,9 @@ part-residues-end-4 c =
 
 residues-requires : tie.Need-residues-requires
 residues-requires c κs =
-    let at-struct-known2 = c .before .before .before .before in
-    let given = at-struct-known2 .before .before .before .before in
+    let at-struct-known3 = c .before .before .before .before in
+    let at-struct-known = at-struct-known3 .before .before in
+    let given = at-struct-known .before .before .before in
     let p = given .args .p in
     let n = p .length in
     let b = given .args .block .now in
@@ -141,8 +149,8 @@ row-requires : tie.Need-row-requires
 row-requires c κs =
     let at-residues = c .before .before .before .before in
     let at-residues-arg = at-residues .before .before .before .before in
-    let at-shared-slice-known = at-residues-arg .before .before .before .before in
-    let given = at-shared-slice-known .before in
+    let at-shared-slice-known2 = at-residues-arg .before .before .before .before in
+    let given = at-shared-slice-known2 .before .before in
     omega (
       arith,
       checks-least (given .args .p) (given .pre .0 .valid) 0,
@@ -153,24 +161,24 @@ mul-out : tie.Need-mul-out
 mul-out c =
     let at-w = c .before .before .before .before in
     let at-residues-arg2 = at-w .before .before .before .before in
-    let at-shared-slice-known2 = at-residues-arg2 .before .before .before .before in
-    let given = at-shared-slice-known2 .before .before in
+    let at-struct-known = at-residues-arg2 .before .before .before .before in
+    let given = at-struct-known .before .before .before in
     record { fits = omega (arith, given .pre .0 .valid .subwords, given .pre .2) }
 
 array-set-from-out : tie.Need-array-set-from-out
 array-set-from-out c =
     let at-w = c .before .before .before .before in
     let at-residues-arg2 = at-w .before .before .before .before in
-    let at-shared-slice-known2 = at-residues-arg2 .before .before .before .before in
-    let given = at-shared-slice-known2 .before .before in
+    let at-struct-known = at-residues-arg2 .before .before .before .before in
+    let given = at-struct-known .before .before .before in
     omega (arith, given .pre .0 .valid .subwords, given .pre .2)
 
 row-requires-2 : tie.Need-row-requires-2
 row-requires-2 c κs =
     let at-w = c .before .before .before .before in
     let at-residues-arg2 = at-w .before .before .before .before in
-    let at-shared-slice-known2 = at-residues-arg2 .before .before .before .before in
-    let given = at-shared-slice-known2 .before .before in
+    let at-struct-known = at-residues-arg2 .before .before .before .before in
+    let given = at-struct-known .before .before .before in
     omega (
       arith,
       checks-least (given .args .p) (given .pre .0 .valid) 0,
@@ -181,32 +189,32 @@ add-out : tie.Need-add-out
 add-out c =
     let at-x = c .before .before .before .before in
     let at-residues-arg3 = at-x .before .before .before .before in
-    let at-struct-known = at-residues-arg3 .before .before .before .before in
-    let given = at-struct-known .before .before .before in
+    let at-struct-known2 = at-residues-arg3 .before .before .before .before in
+    let given = at-struct-known2 .before .before .before .before in
     record { fits = omega (arith, given .pre .0 .valid .subwords, given .pre .2) }
 
 mul-out-2 : tie.Need-mul-out-2
 mul-out-2 c =
     let at-x = c .before .before .before .before in
     let at-residues-arg3 = at-x .before .before .before .before in
-    let at-struct-known = at-residues-arg3 .before .before .before .before in
-    let given = at-struct-known .before .before .before in
+    let at-struct-known2 = at-residues-arg3 .before .before .before .before in
+    let given = at-struct-known2 .before .before .before .before in
     record { fits = omega (arith, given .pre .0 .valid .subwords, given .pre .2) }
 
 array-set-from-out-2 : tie.Need-array-set-from-out-2
 array-set-from-out-2 c =
     let at-x = c .before .before .before .before in
     let at-residues-arg3 = at-x .before .before .before .before in
-    let at-struct-known = at-residues-arg3 .before .before .before .before in
-    let given = at-struct-known .before .before .before in
+    let at-struct-known2 = at-residues-arg3 .before .before .before .before in
+    let given = at-struct-known2 .before .before .before .before in
     omega (arith, given .pre .0 .valid .subwords, given .pre .2)
 
 row-requires-3 : tie.Need-row-requires-3
 row-requires-3 c κs =
     let at-x = c .before .before .before .before in
     let at-residues-arg3 = at-x .before .before .before .before in
-    let at-struct-known = at-residues-arg3 .before .before .before .before in
-    let given = at-struct-known .before .before .before in
+    let at-struct-known2 = at-residues-arg3 .before .before .before .before in
+    let given = at-struct-known2 .before .before .before .before in
     omega (
       arith,
       checks-least (given .args .p) (given .pre .0 .valid) 0,
@@ -217,32 +225,36 @@ add-out-2 : tie.Need-add-out-2
 add-out-2 c =
     let at-y = c .before .before .before .before in
     let at-residues-arg4 = at-y .before .before .before .before in
-    let at-struct-known2 = at-residues-arg4 .before .before .before .before in
-    let given = at-struct-known2 .before .before .before .before in
+    let at-struct-known3 = at-residues-arg4 .before .before .before .before in
+    let at-struct-known = at-struct-known3 .before .before in
+    let given = at-struct-known .before .before .before in
     record { fits = omega (arith, given .pre .0 .valid .subwords, given .pre .2) }
 
 mul-out-3 : tie.Need-mul-out-3
 mul-out-3 c =
     let at-y = c .before .before .before .before in
     let at-residues-arg4 = at-y .before .before .before .before in
-    let at-struct-known2 = at-residues-arg4 .before .before .before .before in
-    let given = at-struct-known2 .before .before .before .before in
+    let at-struct-known3 = at-residues-arg4 .before .before .before .before in
+    let at-struct-known = at-struct-known3 .before .before in
+    let given = at-struct-known .before .before .before in
     record { fits = omega (arith, given .pre .0 .valid .subwords, given .pre .2) }
 
 array-set-from-out-3 : tie.Need-array-set-from-out-3
 array-set-from-out-3 c =
     let at-y = c .before .before .before .before in
     let at-residues-arg4 = at-y .before .before .before .before in
-    let at-struct-known2 = at-residues-arg4 .before .before .before .before in
-    let given = at-struct-known2 .before .before .before .before in
+    let at-struct-known3 = at-residues-arg4 .before .before .before .before in
+    let at-struct-known = at-struct-known3 .before .before in
+    let given = at-struct-known .before .before .before in
     omega (arith, given .pre .0 .valid .subwords, given .pre .2)
 
 row-requires-4 : tie.Need-row-requires-4
 row-requires-4 c κs =
     let at-y = c .before .before .before .before in
     let at-residues-arg4 = at-y .before .before .before .before in
-    let at-struct-known2 = at-residues-arg4 .before .before .before .before in
-    let given = at-struct-known2 .before .before .before .before in
+    let at-struct-known3 = at-residues-arg4 .before .before .before .before in
+    let at-struct-known = at-struct-known3 .before .before in
+    let given = at-struct-known .before .before .before in
     omega (
       arith,
       checks-least (given .args .p) (given .pre .0 .valid) 0,
@@ -254,8 +266,8 @@ add-out-3 c =
     let at-z = c .before .before .before .before in
     let at-residues = at-z .before .before .before .before in
     let at-residues-arg = at-residues .before .before .before .before in
-    let at-shared-slice-known = at-residues-arg .before .before .before .before in
-    let given = at-shared-slice-known .before in
+    let at-shared-slice-known2 = at-residues-arg .before .before .before .before in
+    let given = at-shared-slice-known2 .before .before in
     record { fits = omega (arith, given .pre .0 .valid .subwords, given .pre .2) }
 
 mul-out-4 : tie.Need-mul-out-4
@@ -263,8 +275,8 @@ mul-out-4 c =
     let at-z = c .before .before .before .before in
     let at-residues = at-z .before .before .before .before in
     let at-residues-arg = at-residues .before .before .before .before in
-    let at-shared-slice-known = at-residues-arg .before .before .before .before in
-    let given = at-shared-slice-known .before in
+    let at-shared-slice-known2 = at-residues-arg .before .before .before .before in
+    let given = at-shared-slice-known2 .before .before in
     record { fits = omega (arith, given .pre .0 .valid .subwords, given .pre .2) }
 
 array-set-from-out-4 : tie.Need-array-set-from-out-4
@@ -272,8 +284,8 @@ array-set-from-out-4 c =
     let at-z = c .before .before .before .before in
     let at-residues = at-z .before .before .before .before in
     let at-residues-arg = at-residues .before .before .before .before in
-    let at-shared-slice-known = at-residues-arg .before .before .before .before in
-    let given = at-shared-slice-known .before in
+    let at-shared-slice-known2 = at-residues-arg .before .before .before .before in
+    let given = at-shared-slice-known2 .before .before in
     omega (arith, given .pre .0 .valid .subwords, given .pre .2)
 
 returns : tie.Need-returns
@@ -282,8 +294,8 @@ returns c =
     let at-w = at-row .before .before .before .before in
     let at-residues = at-w .before in
     let at-residues-arg = at-residues .before .before .before .before in
-    let at-shared-slice-known = at-residues-arg .before .before .before .before in
-    let given = at-shared-slice-known .before in
+    let at-shared-slice-known2 = at-residues-arg .before .before .before .before in
+    let given = at-shared-slice-known2 .before .before in
     let p = given .args .p in
     let n = p .length in
     let i = given .args .i in
@@ -311,6 +323,7 @@ four-spec =
     tie.close
     (tie.spec
     cast-n
+    cast-first
     cast-k
     mul-k
     mul-a

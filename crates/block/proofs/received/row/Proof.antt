@@ -13,8 +13,8 @@ array-share-prefix-r c = search needs
 
 slice-aggregate-at-roots : tie.Need-slice-aggregate-at-roots
 slice-aggregate-at-roots c =
-    let long : length (c .before .args .t1) ≡ 48 = search needs in
-    sym (length-take-le (c .before .args .k) (c .before .args .t1) (omega (arith, long, c .before .pre)))
+    let long : length (c .before .args .t2) ≡ 48 = search needs in
+    sym (length-take-le (c .before .args .k) (c .before .args .t2) (omega (arith, long, c .before .pre)))
 
 at-roots-requires : tie.Need-at-roots-requires
 at-roots-requires c κs = search needs
@@ -22,9 +22,10 @@ at-roots-requires c κs = search needs
 returns : tie.Need-returns
 returns c =
     let given = c .before .before in
-    let long : length (given .args .t1) ≡ 48 = search needs in
-    λ n w is. c .at-roots .ensures ∙ residue-syndromes n (given .args .k) w (omega (arith, given .pre))
-    (given .args .t1) (omega (arith, long, given .pre)) is
+    let long : length (given .args .t2) ≡ 48 = search needs in
+    λ n w is. c .at-roots .ensures
+    ∙ residue-syndromes (given .args .first) n (given .args .k) w (omega (arith, given .pre))
+    (given .args .t2) (omega (arith, long, given .pre)) is
 
 pub row-spec : {M : Type 1} → statement M
 row-spec = tie.close (tie.spec array-share-prefix-r slice-aggregate-at-roots at-roots-requires returns)
