@@ -21,9 +21,8 @@ use Rattle.polynomial.specs.SyndromesZero.{zero?}
 use Rattle.profile.specs.declared.Profile.{Profile}
 use Rattle.profile.specs.Definition.{first-root, checks}
 use Rattle.divider.specs.GeneratorTable.{Table}
-use Rattle.code.specs.Word.{syndrome}
 use Rattle.divider.specs.ReedSolomonResidue.{residue}
-use Rattle.code.specs.Definition.{nested}
+use Rattle.code.specs.Definition.{syndrome-of, nested}
 use Rattle.block.specs.Table.{table}
 
 abbrev pub further : Profile → ℕ
@@ -46,4 +45,4 @@ abbrev pub Remainders : Profile → Series → List (List ℕ) → Type 0
 Remainders p s r = (l : ℕ) → l < p .nested → (length (getD r l []) ≡ 48) × (bytes (getD r l []) ≡ left p s l)
 
 abbrev pub Vanish : Profile → Series → ℕ → Type 0
-Vanish p s l = (j : ℕ) → 2 * p .t0 ≤ j → j < checks p l → syndrome (first-root p) (p .length) (nested p s l) j ≡ 𝟎
+Vanish p s l = (j : ℕ) → 2 * p .t0 ≤ j → j < checks p l → syndrome-of p (nested p s l) j ≡ 𝟎

@@ -25,9 +25,8 @@ use Rattle.profile.specs.declared.Profile.{Profile}
 use Rattle.profile.specs.Definition.{capability, first-root, checks}
 use Rattle.profile.specs.Valid.{Valid, checks-is, checks-mono, checks-most}
 use Rattle.code.specs.Word.{syndrome}
-use Rattle.code.specs.Systematic.{syndrome-from}
-use Rattle.divider.specs.ReedSolomonResidue.{residue, Residual, residue-array}
-use Rattle.code.specs.Definition.{nested, Codeword}
+use Rattle.divider.specs.ReedSolomonResidue.{residue, Residual, residue-from}
+use Rattle.code.specs.Definition.{syndrome-of, nested, Codeword}
 use Rattle.code.specs.Block.{syndrome-nested}
 use Rattle.code.specs.Encoding.{codeword?}
 use Rattle.code.specs.Check.{Subwords, received}
@@ -83,7 +82,7 @@ three-rows p s x y z ok hx hy hz (suc (suc zero)) low = hz low
 three-rows p s x y z ok hx hy hz (suc (suc (suc l))) low = absurd (omega (arith, ok .nested))
 
 module _ (p : Profile) (s : Series) (inner : Subwords p s) where
-  nested-low : (l j : ℕ) → j < 2 * p .t0 → syndrome (first-root p) (p .length) (nested p s l) j ≡ 𝟎
+  nested-low : (l j : ℕ) → j < 2 * p .t0 → syndrome-of p (nested p s l) j ≡ 𝟎
   nested-low l j h =
       syndrome-nested p s l j ∙ sum-zero (p .subwords) _ (λ i u. ap (λ x. pow α (i * l) ⊙ x) (inner i u j h) ∙ ⊙-zero _)
 
@@ -94,7 +93,7 @@ module _ (p : Profile) (s : Series) (inner : Subwords p s) where
   }))
     where
       go : (l : ℕ) → l < p .nested → (j : ℕ) → j < 2 * capability p (p .nested - l) → Dec (j < 2 * p .t0)
-          → syndrome (first-root p) (p .length) (nested p s l) j ≡ 𝟎
+          → syndrome-of p (nested p s l) j ≡ 𝟎
       go l u j q (yes low) = nested-low l j low
       go l u j q (no high) = h l u j (omega arith) (omega (arith, checks-is p l))
 
@@ -103,24 +102,14 @@ module _ (p : Profile) (s : Series) (ok : Valid p) (l k c : ℕ) (r : List ℕ) 
     (asked : c ≡ checks p l)
     (holds-left : (length r ≡ 48) × (bytes r ≡ left p s l))
     (is : row x ≡ cut c (syndrome (first-root p) (length (take k r)) (bytes (take k r)))) where
-  -- number i from number 2 t0 on
-  further-syndrome : (i : ℕ) → i < further p
-      → syndrome (first-root p) (length (take (further p) r)) (bytes (take (further p) r)) (2 * p .t0 + i)
-      ≡ syndrome (first-root p) (p .length) (nested p s l) (2 * p .t0 + i)
-  further-syndrome i h =
-      syndrome-from (first-root p) (2 * p .t0) _ _ i
-      ∙ residue-array (first-root p + 2 * p .t0) (p .length) (further p) (nested p s l)
-      (omega (arith, checks-most p ok 0)) r (omega (arith, holds-left .0, checks-most p ok 0)) (holds-left .1) i h
-      ∙ sym (syndrome-from (first-root p) (2 * p .t0) _ _ i)
-
-  pub word-syndrome : (j : ℕ) → 2 * p .t0 ≤ j → j < checks p l
-      → row x j ≡ syndrome (first-root p) (p .length) (nested p s l) j
+  pub word-syndrome : (j : ℕ) → 2 * p .t0 ≤ j → j < checks p l → row x j ≡ syndrome-of p (nested p s l) j
   word-syndrome j low h =
-      let e : 2 * p .t0 + (j - 2 * p .t0) ≡ j = omega arith in
       ap (λ (f : Series). f j) is
       ∙ cut-low c _ j (omega (arith, asked))
       ∙ ap (λ k. syndrome (first-root p) (length (take k r)) (bytes (take k r)) j) count
-      ∙ (rw e at (further-syndrome (j - 2 * p .t0) (omega (arith, checks-mono p ok 0 l (omega arith)))))
+      ∙ residue-from (first-root p) (2 * p .t0) (p .length) (further p) (nested p s l)
+      (omega (arith, checks-most p ok 0)) r (omega (arith, holds-left .0, checks-most p ok 0)) (holds-left .1) j low
+      (omega (arith, checks-mono p ok 0 l (omega arith)))
 
   pub check-fails : (j : ℕ) → l < p .nested → 2 * p .t0 ≤ j → j < checks p l → row x j ≢ 𝟎
       → false ≡ holds (codeword? p s)

@@ -22,13 +22,13 @@ use Rattle.profile.specs.declared.Profile.{Profile}
 use Rattle.profile.specs.Definition.{first-root}
 use Rattle.code.specs.Word.{syndrome}
 use Rattle.divider.specs.ReedSolomonResidue.{residue, Residual}
-use Rattle.code.specs.Definition.{subword}
+use Rattle.code.specs.Definition.{syndrome-of, subword}
 use Rattle.block.specs.Parts.{Fits, inside, part-residue}
 use Rattle.block.specs.Table.{table, rows-more}
 use Rattle.code.specs.Check.{rows}
 
 abbrev pub row-of : Profile → Series → ℕ → Series
-row-of p s i = cut (2 * p .t0) (syndrome (first-root p) (p .length) (subword (p .length) s i))
+row-of p s i = cut (2 * p .t0) (syndrome-of p (subword (p .length) s i))
 
 abbrev pub FirstRows : Profile → Series → ℕ → List (List Gf) → Type 0
 FirstRows p s i r = (length r ≡ 8) × (table r ≡ rows i (row-of p s))
@@ -84,4 +84,4 @@ part-row p b i a k q x y start size count inside r from =
     from (p .length) (subword (p .length) (bytes b) i)
     (r .is ∙ ap (λ a. residue (first-root p) (length (take k (drop a b))) q (bytes (take k (drop a b)))) start
     ∙ part-residue (first-root p) (p .length) i k b q size inside)
-    ∙ ap (λ q. cut q (syndrome (first-root p) (p .length) (subword (p .length) (bytes b) i))) count
+    ∙ ap (λ q. cut q (syndrome-of p (subword (p .length) (bytes b) i))) count

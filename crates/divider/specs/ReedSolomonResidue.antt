@@ -3,9 +3,10 @@
 --   residue first n k w   that remainder: the one polynomial of degree below k with the word's values at these roots
 --   Residual first k l r  the array r of 48 symbols holds the remainder of the word l
 --
--- Proved: it has the word's first k syndromes (residue-syndrome; residue-array and residue-syndromes from an array); it
--- is found by the table (residue-table) and depends on the first n symbols (residue-cong). A word and its remainder
--- make the systematic word (residue-systematic).
+-- Proved: it has the word's first k syndromes (residue-syndrome; residue-array and residue-syndromes from an array), so
+-- one by the roots from number a on has those from number a on (residue-from); it is found by the table
+-- (residue-table) and depends on the first n symbols (residue-cong). A word and its remainder make the systematic word
+-- (residue-systematic).
 use Prim.Native.Nat.{ℕ, _+_, _-_, _≤_, _<_}
 use mathlib.Core.Path.{_≡_, sym, ap, ap₂, _∙_, fun-ext}
 use mathlib.Core.List.{List}
@@ -26,7 +27,8 @@ use Rattle.divider.specs.Multiples.{rows, lower}
 use Rattle.divider.specs.Generator.{rest, aligned, below-rest, rest-value}
 use Rattle.divider.specs.GeneratorTable.{Table}
 use Rattle.code.specs.Word.{root, syndrome, upper, systematic}
-use Rattle.code.specs.Systematic.{roots-distinct, syndrome-is, syndrome-cong, syndrome-⊞, check-symbols-is}
+use Rattle.code.specs.Systematic.{roots-distinct, syndrome-is, syndrome-from, syndrome-cong, syndrome-⊞}
+use Rattle.code.specs.Systematic.{check-symbols-is}
 
 unfoldable pub residue : ℕ → ℕ → ℕ → Series → Series
 residue first n k w = interpolate k (root first) (syndrome first n w)
@@ -115,3 +117,13 @@ module _ (first n k : ℕ) (w : Series) (small : k < 255) where
           ∙ ap₂ _⊕_ (sym (low j))
           (residue-syndrome j h ∙ ap (λ (f : Series). syndrome first n f j) (cut-drop k w) ∙ syndrome-⊞ first n _ _ j)
           ∙ simp ⊕-group
+
+-- by the k roots from number a on, the first of all being α^first
+pub residue-from : (first a n k : ℕ) (w : Series) → k < 255 → (r : List ℕ) → k ≤ length r
+    → bytes r ≡ residue (first + a) n k w → (j : ℕ) → a ≤ j → j < a + k
+    → syndrome first (length (take k r)) (bytes (take k r)) j ≡ syndrome first n w j
+residue-from first a n k w small r long e j low h =
+    let at : a + (j - a) ≡ j = omega arith in
+    rw at at (syndrome-from first a (length (take k r)) (bytes (take k r)) (j - a)
+    ∙ residue-array (first + a) n k w small r long e (j - a) (omega arith)
+    ∙ sym (syndrome-from first a n w (j - a)))

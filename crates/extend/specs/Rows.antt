@@ -28,8 +28,8 @@ use Rattle.profile.specs.declared.Profile.{Profile}
 use Rattle.profile.specs.Definition.{first-root}
 use Rattle.profile.specs.Valid.{Valid}
 use Rattle.code.specs.Word.{syndrome}
-use Rattle.code.specs.Systematic.{syndrome-from, syndrome-sum}
-use Rattle.divider.specs.ReedSolomonResidue.{residue, residue-array}
+use Rattle.code.specs.Systematic.{syndrome-sum}
+use Rattle.divider.specs.ReedSolomonResidue.{residue, residue-from}
 use Rattle.code.specs.Definition.{syndrome-of, subword}
 use Rattle.code.specs.Block.{syndrome-nested}
 use Rattle.code.specs.Combined.{combined}
@@ -82,15 +82,10 @@ pub left-syndrome : (f a n k b : ℕ) (g : Series) (w r : List ℕ) (s : List Gf
     → row s ≡ cut b (syndrome f (length (take k r)) (bytes (take k r))) → (j : ℕ) → a ≤ j → j < b
     → row s j ≡ syndrome f n g j
 left-syndrome f a n k b g w r s small most room long word left is j low h =
-    let e : a + (j - a) ≡ j = omega arith in
     ap (λ (v : Series). v j) is
     ∙ cut-low b _ j h
-    ∙ ap (syndrome f (length (take k r)) (bytes (take k r))) (sym e)
-    ∙ syndrome-from f a (length (take k r)) (bytes (take k r)) (j - a)
-    ∙ residue-array (f + a) n k g (omega arith) r (omega arith)
-    (left ∙ prefix-residue (f + a) n k w g room word) (j - a) (omega arith)
-    ∙ sym (syndrome-from f a n g (j - a))
-    ∙ ap (syndrome f n g) e
+    ∙ residue-from f a n k g (omega arith) r (omega arith) (left ∙ prefix-residue (f + a) n k w g room word) j low
+    (omega arith)
 
 -- ---- rows, one after the other
 

@@ -4,9 +4,10 @@ use mathlib.Core.Path.{_≡_, sym}
 use native.Mathlib.Omega.{arith}
 use lib.ListN.{length}
 use lib.Seq.{length-take-le}
+use Rattle.profile.specs.Definition.{first-root}
 use Rattle.profile.specs.Laws.{unless, meets}
 use Rattle.profile.specs.Valid.{checks-least, checks-most, checks-below}
-use Rattle.block.specs.CodewordLaws.{roots-for}
+use Rattle.divider.specs.GeneratorTable.{table-for}
 use Rattle.extend.specs.Rows.{left-syndrome, extended-no, extended-word}
 use borrow.Author.Needs.{needs}
 use Rattle.extend.proofs.extend_row.Statement.{statement}
@@ -46,19 +47,21 @@ array-share-prefix-word c = search needs
 
 slice-aggregate-residue : tie.Need-slice-aggregate-residue
 slice-aggregate-residue c =
-    let at-struct-known = c .before .before .before .before in
-    let given = at-struct-known .before .before .before .before in
+    let at-further = c .before .before in
+    let at-if1 = at-further .before .before .before .before in
+    let given = at-if1 .before .before .before in
     sym (length-take-le (given .args .p .length) _ (omega (arith, given .pre .0 .valid .length)))
 
 residue-requires : tie.Need-residue-requires
 residue-requires c κs =
-    let at-struct-known = c .before .before .before .before in
-    let given = at-struct-known .before .before .before .before in
+    let at-further = c .before .before in
+    let at-if1 = at-further .before .before .before .before in
+    let given = at-if1 .before .before .before in
     let p = given .args .p in
     let ok = given .pre .0 .valid in
-    let k = c .before .before .further .ensures in
+    let k = at-further .further .ensures in
     let size = length-take-le (p .length) (c .before .merge .result) (omega (arith, ok .length)) in (
-      roots-for (sym k) (given .pre .1 (given .pre .2)),
+      table-for (sym k) (given .pre .1 (given .pre .2)),
       omega (arith, checks-least p ok 0, checks-most p ok 0, k),
       omega (arith, checks-below p ok 0, k, size),
     )
@@ -66,7 +69,7 @@ residue-requires c κs =
 array-share-prefix-left : tie.Need-array-share-prefix-left
 array-share-prefix-left c =
     let at-further = c .before .before .before in
-    let at-if1 = at-further .before .before .before in
+    let at-if1 = at-further .before .before .before .before in
     let given = at-if1 .before .before .before in
     let long : length (c .residue .result) ≡ 48 = search needs in
     omega (
@@ -79,7 +82,7 @@ array-share-prefix-left c =
 slice-aggregate-at-roots : tie.Need-slice-aggregate-at-roots
 slice-aggregate-at-roots c =
     let at-further = c .before .before .before .before in
-    let at-if1 = at-further .before .before .before in
+    let at-if1 = at-further .before .before .before .before in
     let given = at-if1 .before .before .before in
     let long : length (c .before .residue .result) ≡ 48 = search needs in
     sym (length-take-le (at-further .further .result) _ (omega (
@@ -91,15 +94,16 @@ slice-aggregate-at-roots c =
 
 at-roots-requires : tie.Need-at-roots-requires
 at-roots-requires c κs =
-    let at-merge = c .before .before .before in
-    let at-if1 = at-merge .before .before .before .before in
+    let at-further = c .before .before .before .before in
+    let at-if1 = at-further .before .before .before .before in
     let given = at-if1 .before .before .before in
     omega (arith, given .pre .4, checks-most (given .args .p) (given .pre .0 .valid) 0)
 
 splice-requires : tie.Need-splice-requires
 splice-requires c κs =
     let at-merge = c .before .before .before .before in
-    let at-if1 = at-merge .before .before .before .before in
+    let at-further = at-merge .before in
+    let at-if1 = at-further .before .before .before .before in
     let given = at-if1 .before .before .before in
     omega (arith, given .pre .4, checks-most (given .args .p) (given .pre .0 .valid) 0)
 
@@ -108,7 +112,7 @@ returns-2 c =
     let at-residue = c .before .before .before in
     let at-merge = at-residue .before .before in
     let at-further = at-merge .before in
-    let at-if1 = at-further .before .before .before in
+    let at-if1 = at-further .before .before .before .before in
     let given = at-if1 .before .before .before in
     let x = given .args in
     let p = x .p in
