@@ -7,7 +7,7 @@ ghost use Rattle.field.specs.Field.{α, _⊙_, pow, of};
 ghost use Rattle.series.specs.Series.{K, _⊞_, _⊠_};
 ghost use Rattle.series.specs.Shift.{cut, drop};
 ghost use Rattle.series.specs.Array.{bytes};
-ghost use Rattle.profile.specs.Definition.{checks as Checks, data-length as DataLength};
+ghost use Rattle.profile.specs.Definition.{first-root, checks as Checks, data-length as DataLength};
 ghost use Rattle.divider.specs.GeneratorTable.{Table};
 ghost use Rattle.code.specs.Triangle.{carried as Carried, corner as Corner};
 ghost use Rattle.block.specs.Parts.{Fits};
@@ -95,28 +95,29 @@ pub fn place(k: usize, e: &[u8], input: &[u8], word: &mut [u8])
     }
 }
 
-// Fills the word with e plus the Reed-Solomon word of the data plus e.
-fn fill(t: &[u64], k: usize, e: &[u8], input: &[u8], word: &mut [u8])
-    requires { ⌜ Table 0 k (now t) × (k ≤ 48) × (length (now word) ≡ k + length (now input))
+// Fills the word with e plus the Reed-Solomon word of the data plus e, the first root being α^first.
+fn fill(t: &[u64], first: usize, k: usize, e: &[u8], input: &[u8], word: &mut [u8])
+    requires { ⌜ Table first k (now t) × (k ≤ 48) × (length (now word) ≡ k + length (now input))
         × (length (now e) ≡ length (now word)) ⌝ }
     ensures { λ _. ⌜ bytes (now (word .exit)) ≡
-        filled (length (now (word .entry))) k (bytes (now (input .entry))) (bytes (now (e .entry))) ⌝ }
+        filled first (length (now (word .entry))) k (bytes (now (input .entry))) (bytes (now (e .entry))) ⌝ }
 {
     place(k, e, input, word);
-    divider::reed_solomon::encode(t, k, word);
+    divider::reed_solomon::encode(t, first, k, word);
     kernel::add(e, word);
 }
 
 // Writes subword i, once those above it are written; nothing is promised of those below it, which are written later.
 pub fn write_subword(p: Profile, t: &[u64], i: usize, input: &[u8], out: &mut [u8])
-    requires { ⌜ Fits p (now out) × (i < p .subwords) × Table 0 (Checks p i) (now t)
+    requires { ⌜ Fits p (now out) × (i < p .subwords) × Table (first-root p) (Checks p i) (now t)
         × (length (now input) ≡ DataLength p i) ⌝ }
     ensures { λ _. ⌜ Wrote p (bytes (now (input .entry))) i (bytes (now (out .entry))) (bytes (now (out .exit))) ⌝ }
 {
     let n = p.length as usize;
+    let first = p.first_root as usize;
     let k = p.checks(i as u8) as usize;
     let e = carried(p, i, &out[..]);
     let a = i * n;
     let b = a + n;
-    fill(t, k, &e[..n], input, &mut out[a..b]);
+    fill(t, first, k, &e[..n], input, &mut out[a..b]);
 }

@@ -6,7 +6,7 @@ ghost use lib.ListN.{length};
 ghost use Rattle.series.specs.Series.{_⊞_, _⊠_};
 ghost use Rattle.series.specs.Shift.{zpow};
 ghost use Rattle.series.specs.Array.{bytes};
-ghost use Rattle.profile.specs.Definition.{checks as Checks, data-length as DataLength};
+ghost use Rattle.profile.specs.Definition.{first-root, checks as Checks, data-length as DataLength};
 ghost use Rattle.divider.specs.GeneratorTable.{Table};
 ghost use Rattle.block.specs.Parts.{Fits};
 ghost use Rattle.encoder.specs.CarrySubword.{Wrote};
@@ -37,24 +37,33 @@ fn padded(k: usize, input: &[u8]) -> [u8; POSITIONS]
     word
 }
 
-// The remainders of four words with these data.
-fn remainders(t: &[u64], n: usize, k: usize, a: &[u8], b: &[u8], c: &[u8], d: &[u8]) -> FourResidues
-    requires { ⌜ Table 0 k (now t) × (k ≤ 48) × (n ≤ 255) × (k + length (now a) ≡ n) × (k + length (now b) ≡ n)
+// The remainders of four words with these data, the first root being α^first.
+fn remainders(
+    t: &[u64],
+    first: usize,
+    n: usize,
+    k: usize,
+    a: &[u8],
+    b: &[u8],
+    c: &[u8],
+    d: &[u8],
+) -> FourResidues
+    requires { ⌜ Table first k (now t) × (k ≤ 48) × (n ≤ 255) × (k + length (now a) ≡ n) × (k + length (now b) ≡ n)
         × (k + length (now c) ≡ n) × (k + length (now d) ≡ n) ⌝ }
-    ensures { λ r. ⌜ Known n k (now (a .entry)) (r .first) × Known n k (now (b .entry)) (r .second)
-        × Known n k (now (c .entry)) (r .third) × Known n k (now (d .entry)) (r .fourth) ⌝ }
+    ensures { λ r. ⌜ Known first n k (now (a .entry)) (r .first) × Known first n k (now (b .entry)) (r .second)
+        × Known first n k (now (c .entry)) (r .third) × Known first n k (now (d .entry)) (r .fourth) ⌝ }
 {
     let w = padded(k, a);
     let x = padded(k, b);
     let y = padded(k, c);
     let z = padded(k, d);
-    divider::reed_solomon::residues(t, 0, k, &w[..n], &x[..n], &y[..n], &z[..n])
+    divider::reed_solomon::residues(t, first, k, &w[..n], &x[..n], &y[..n], &z[..n])
 }
 
 // Writes subword i, r being the remainder of its data.
 fn write_known(p: Profile, k: usize, r: &[u8], i: usize, input: &[u8], out: &mut [u8])
     requires { ⌜ Fits p (now out) × (p .nested ≤ i) × (i < p .subwords) × (k ≡ Checks p i)
-        × (length (now input) ≡ DataLength p i) × Known (p .length) k (now input) (now r) ⌝ }
+        × (length (now input) ≡ DataLength p i) × Known (first-root p) (p .length) k (now input) (now r) ⌝ }
     ensures { λ _. ⌜ Wrote p (bytes (now (input .entry))) i (bytes (now (out .entry))) (bytes (now (out .exit))) ⌝ }
 {
     let n = p.length as usize;
@@ -77,15 +86,16 @@ pub fn write_four(
     d: &[u8],
     out: &mut [u8],
 )
-    requires { ⌜ Fits p (now out) × (p .nested ≤ i) × (i + 4 ≤ p .subwords) × Table 0 (Checks p i) (now t)
+    requires { ⌜ Fits p (now out) × (p .nested ≤ i) × (i + 4 ≤ p .subwords) × Table (first-root p) (Checks p i) (now t)
         × (length (now a) ≡ DataLength p i) × (length (now b) ≡ DataLength p i) × (length (now c) ≡ DataLength p i)
         × (length (now d) ≡ DataLength p i) ⌝ }
     ensures { λ _. ⌜ WroteFour p (bytes (now (a .entry))) (bytes (now (b .entry))) (bytes (now (c .entry)))
         (bytes (now (d .entry))) i (bytes (now (out .entry))) (bytes (now (out .exit))) ⌝ }
 {
     let n = p.length as usize;
+    let f = p.first_root as usize;
     let k = p.checks(i as u8) as usize;
-    let r = remainders(t, n, k, a, b, c, d);
+    let r = remainders(t, f, n, k, a, b, c, d);
     let first = r.first;
     let second = r.second;
     let third = r.third;

@@ -7,7 +7,7 @@ ghost use Prim.Native.Nat.{suc, _+_, _≤_};
 ghost use mathlib.Core.Path.{_≡_};
 ghost use lib.ListN.{length};
 ghost use Rattle.series.specs.Array.{bytes};
-ghost use Rattle.profile.specs.Definition.{answer-of, checks as Checks, data-size as DataSize};
+ghost use Rattle.profile.specs.Definition.{answer-of, first-root, checks as Checks, data-size as DataSize};
 ghost use Rattle.profile.specs.Questions.{writing};
 ghost use Rattle.divider.specs.GeneratorTable.{Table};
 ghost use Rattle.code.specs.Definition.{Encodes};
@@ -36,7 +36,7 @@ fn write_one(
     end: usize,
     out: &mut [u8],
 ) -> usize
-    requires { ⌜ DownTo p (now input) (now out) (suc i) end × (k ≡ Checks p i) × Table 0 k (now t) ⌝ }
+    requires { ⌜ DownTo p (now input) (now out) (suc i) end × (k ≡ Checks p i) × Table (first-root p) k (now t) ⌝ }
     ensures { λ s. ⌜ DownTo p (now (input .entry)) (now (out .exit)) i s ⌝ }
 {
     let start = end - (p.length as usize - k);
@@ -55,7 +55,7 @@ fn write_four(
     out: &mut [u8],
 ) -> usize
     requires { ⌜ DownTo p (now input) (now out) (i + 4) end × (p .nested ≤ i) × (k ≡ Checks p (p .nested))
-        × Table 0 k (now t) ⌝ }
+        × Table (first-root p) k (now t) ⌝ }
     ensures { λ s. ⌜ DownTo p (now (input .entry)) (now (out .exit)) i s ⌝ }
 {
     let one = p.length as usize - k;
@@ -79,7 +79,7 @@ fn write_four(
 // Writes four subwords at a time, while so many are left to which nothing is carried.
 fn write_fours(p: Profile, t: &[u64], k: usize, input: &[u8], out: &mut [u8]) -> Left
     requires { ⌜ Fits p (now out) × (length (now input) ≡ DataSize p) × (k ≡ Checks p (p .nested))
-        × Table 0 k (now t) ⌝ }
+        × Table (first-root p) k (now t) ⌝ }
     ensures { λ r. ⌜ DownTo p (now (input .entry)) (now (out .exit)) (r .subwords) (r .symbols) ⌝ }
 {
     let least = p.nested as usize + 4;
@@ -100,16 +100,17 @@ fn write(p: Profile, input: &[u8], out: &mut [u8])
     requires { ⌜ Fits p (now out) × (length (now input) ≡ DataSize p) ⌝ }
     ensures { λ _. ⌜ Encodes p (bytes (now (input .entry))) (bytes (now (out .exit))) ⌝ }
 {
+    let first = p.first_root as usize;
     let mut t = divider::generator::blank();
     let mut made = p.checks(p.nested) as usize;
-    divider::generator::table(0, made, &mut t);
+    divider::generator::table(first, made, &mut t);
     let left = write_fours(p, &t, made, input, out);
     let mut end = left.symbols;
     let mut i = left.subwords;
     while i > 0 {
         i = i - 1;
         let k = p.checks(i as u8) as usize;
-        divider::generator::prepare(&mut t, made, k);
+        divider::generator::prepare(&mut t, made, first, k);
         made = k;
         end = write_one(p, &t, k, i, input, end, out);
     }

@@ -10,10 +10,13 @@ use Rattle.encoder.proofs.write.Statement.{statement}
 use Rattle.encoder.proofs.write.Tie as tie
 
 abbrev Inv-loop : tie.InvT-loop
-Inv-loop p input out₀ t₀ made₀ end₀ i₀ out t made end i = DownTo p input out i end × Made made t
+Inv-loop p input out₀ first t₀ made₀ end₀ i₀ out t made end i = DownTo p input out i end × Made first made t
 
 abbrev μ-loop : tie.MeasureT-loop
-μ-loop p input out₀ t₀ made₀ end₀ i₀ out t made end i = i
+μ-loop p input out₀ first t₀ made₀ end₀ i₀ out t made end i = i
+
+cast-first : tie.Need-cast-first Inv-loop μ-loop
+cast-first c = search needs
 
 blank-requires : tie.Need-blank-requires Inv-loop μ-loop
 blank-requires c κs = search needs
@@ -30,9 +33,9 @@ slice-aggregate-table c = search needs
 table-requires : tie.Need-table-requires Inv-loop μ-loop
 table-requires c κs =
     let at-blank = c .before .before in
-    let given = at-blank .before .before .before in
+    let given = at-blank .before .before .before .before in
     let most = checks-most _ (given .pre .0 .valid) (given .args .p .nested) in
-    (omega (arith, most, c .before .checks .ensures), search needs)
+    (omega (arith, given .pre .0 .valid .root), omega (arith, most, c .before .checks .ensures), search needs)
 
 slice-aggregate-write-fours : tie.Need-slice-aggregate-write-fours Inv-loop μ-loop
 slice-aggregate-write-fours c = search needs
@@ -41,7 +44,8 @@ write-fours-requires : tie.Need-write-fours-requires Inv-loop μ-loop
 write-fours-requires c κs =
     let at-table = c .before .before .before in
     let at-checks = at-table .before .before in
-    let given = at-checks .before .before .before .before in
+    let at-blank = at-checks .before in
+    let given = at-blank .before .before .before .before in
     (given .pre .0, given .pre .1, at-checks .checks .ensures, at-table .table .ensures)
 
 loop-holds : tie.Need-loop-holds Inv-loop μ-loop
@@ -73,6 +77,7 @@ prepare-requires c κs =
     let valid = now .inv .0 .fits .valid in
     let count = c .before .checks2 .ensures in (
       now .inv .1,
+      omega (arith, valid .root),
       omega (arith, checks-some _ valid (now .i - 1), count),
       omega (arith, checks-most _ valid (now .i - 1), count),
     )
@@ -104,7 +109,7 @@ same-length c =
     let at-write-fours = at-loop .before .before .before in
     let at-table = at-write-fours .before .before .before .before in
     let at-blank = at-table .before .before .before in
-    let given = at-blank .before .before .before in
+    let given = at-blank .before .before .before .before in
     at-loop .loop .inv .0 .fits .size ∙ sym (given .pre .0 .size)
 
 returns : tie.Need-returns Inv-loop μ-loop
@@ -116,6 +121,7 @@ write-spec =
     (tie.spec
     Inv-loop
     μ-loop
+    cast-first
     blank-requires
     checks-requires
     cast-made

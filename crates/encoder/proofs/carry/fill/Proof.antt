@@ -24,8 +24,8 @@ returns c =
     let placed = found .before .before .before .before in
     let at-shared-slice-known2 = placed .before .before .before .before in
     let given = at-shared-slice-known2 .before .before in
-    filled-is (given .args .k) _ _ (given .args .word .now) _ _ _ (omega arith) (placed .place .ensures)
-    (found .encode .ensures) (add .add .ensures)
+    filled-is (given .args .first) (given .args .k) _ _ (given .args .word .now) _ _ _ (omega arith)
+    (placed .place .ensures) (found .encode .ensures) (add .add .ensures)
 
 pub fill-spec : {M : Type 1} → statement M
 fill-spec = tie.close (tie.spec place-requires encode-requires add-requires same-length returns)

@@ -16,6 +16,9 @@ use Rattle.encoder.proofs.carry.write_subword.Tie as tie
 cast-n : tie.Need-cast-n
 cast-n c = search needs
 
+cast-first : tie.Need-cast-first
+cast-first c = search needs
+
 cast-checks : tie.Need-cast-checks
 cast-checks c = search needs
 
@@ -30,14 +33,14 @@ carried-requires c κs = search needs
 
 mul-a : tie.Need-mul-a
 mul-a c =
-    let at-slice-known = c .before .before .before .before in
-    let given = at-slice-known .before .before .before in
+    let at-struct-known = c .before .before .before .before in
+    let given = at-struct-known .before .before .before .before in
     record { fits = omega (arith, inside _ _ (given .args .i) (given .pre .0) (given .pre .1)) }
 
 add-b : tie.Need-add-b
 add-b c =
-    let at-slice-known = c .before .before .before .before in
-    let given = at-slice-known .before .before .before in
+    let at-struct-known = c .before .before .before .before in
+    let given = at-struct-known .before .before .before .before in
     record { fits = omega (arith, inside _ _ (given .args .i) (given .pre .0) (given .pre .1)) }
 
 array-share-prefix-e : tie.Need-array-share-prefix-e
@@ -45,8 +48,9 @@ array-share-prefix-e c = search needs
 
 slice-aggregate-fill : tie.Need-slice-aggregate-fill
 slice-aggregate-fill c =
-    let at-struct-known = c .before .before .before .before in
-    let given = at-struct-known .before .before .before .before in
+    let at-struct-known2 = c .before .before .before .before in
+    let at-slice-known = at-struct-known2 .before .before in
+    let given = at-slice-known .before .before .before in
     sym (length-take-le (given .args .p .length) _ (omega (arith, given .pre .0 .valid .length)))
 
 sub-fill : tie.Need-sub-fill
@@ -57,16 +61,17 @@ part-fill-start c = search needs
 
 part-fill-end : tie.Need-part-fill-end
 part-fill-end c =
-    let at-struct-known = c .before .before .before .before in
-    let given = at-struct-known .before .before .before .before in
+    let at-struct-known2 = c .before .before .before .before in
+    let at-slice-known = at-struct-known2 .before .before in
+    let given = at-slice-known .before .before .before in
     inside _ _ (given .args .i) (given .pre .0) (given .pre .1) .0
 
 fill-requires : tie.Need-fill-requires
 fill-requires c κs =
     let given =
     let at-checks = c .before .before .before .before in
-    let at-shared-slice-known = at-checks .before .before .before .before in
-    at-shared-slice-known .before in
+    let at-shared-slice-known2 = at-checks .before .before .before .before in
+    at-shared-slice-known2 .before .before in
     let p = given .args .p in
     let i = given .args .i in
     let n = p .length in
@@ -88,8 +93,8 @@ returns c =
     let fill = c .before .before in
     let at-carried = fill .before .before .before in
     let at-checks = at-carried .before .before in
-    let at-shared-slice-known = at-checks .before .before .before .before in
-    let given = at-shared-slice-known .before in
+    let at-shared-slice-known2 = at-checks .before .before .before .before in
+    let given = at-shared-slice-known2 .before .before in
     let p = given .args .p in
     let i = given .args .i in
     let n = p .length in
@@ -107,6 +112,7 @@ write-subword-spec =
     tie.close
     (tie.spec
     cast-n
+    cast-first
     cast-checks
     checks-requires
     cast-k

@@ -95,16 +95,18 @@ returns c =
     let first = second .before in
     let at-shared-slice-known2 = first .before .before .before .before in
     let given = at-shared-slice-known2 .before .before in
+    let f = given .args .first in
     let n = given .args .n in
     let k = given .args .k in
     let (ra, rb, rc, rd) = c .residues .ensures in
     let (_, _, most, ea, eb, ec, ed) = given .pre in (
-      known-is n k _ (first .padded .result) _ ea (omega (arith, most, first .padded .ok)) (first .padded .ensures) ra,
-      known-is n k _ (second .padded2 .result) _ eb (omega (arith, most, second .padded2 .ok))
+      known-is f n k _ (first .padded .result) _ ea (omega (arith, most, first .padded .ok))
+          (first .padded .ensures) ra,
+      known-is f n k _ (second .padded2 .result) _ eb (omega (arith, most, second .padded2 .ok))
           (second .padded2 .ensures) rb,
-      known-is n k _ (third .padded3 .result) _ ec (omega (arith, most, third .padded3 .ok))
+      known-is f n k _ (third .padded3 .result) _ ec (omega (arith, most, third .padded3 .ok))
           (third .padded3 .ensures) rc,
-      known-is n k _ (fourth .padded4 .result) _ ed (omega (arith, most, fourth .padded4 .ok))
+      known-is f n k _ (fourth .padded4 .result) _ ed (omega (arith, most, fourth .padded4 .ok))
           (fourth .padded4 .ensures) rd,
     )
 

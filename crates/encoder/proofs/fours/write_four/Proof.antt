@@ -11,6 +11,9 @@ use Rattle.encoder.proofs.fours.write_four.Tie as tie
 cast-n : tie.Need-cast-n
 cast-n c = search needs
 
+cast-f : tie.Need-cast-f
+cast-f c = search needs
+
 cast-checks : tie.Need-cast-checks
 cast-checks c = search needs
 
@@ -22,8 +25,9 @@ cast-k c = search needs
 
 remainders-requires : tie.Need-remainders-requires
 remainders-requires c κs =
-    let at-shared-slice-known4 = c .before .before .before .before in
-    let given = at-shared-slice-known4 .before .before .before .before in
+    let at-shared-slice-known5 = c .before .before .before .before in
+    let at-shared-slice-known = at-shared-slice-known5 .before .before .before .before in
+    let given = at-shared-slice-known .before in
     let p = given .args .p in
     let i = given .args .i in
     let (fits, _, _, table, a, b, e, d) = given .pre in
@@ -49,8 +53,9 @@ write-known-requires c κs =
     let at-second = c .before .before .before .before in
     let at-remainders = at-second .before .before in
     let at-checks = at-remainders .before in
-    let at-shared-slice-known4 = at-checks .before .before .before .before in
-    let given = at-shared-slice-known4 .before .before .before .before in
+    let at-shared-slice-known5 = at-checks .before .before .before .before in
+    let at-shared-slice-known = at-shared-slice-known5 .before .before .before .before in
+    let given = at-shared-slice-known .before in
     let (fits, high, most, _, a, b, e, d) = given .pre in
     let (ka, kb, kc, kd) = at-remainders .remainders .ensures in
     known-above (given .args .p) (given .args .i) 3 _ _ _ _
@@ -61,7 +66,14 @@ slice-aggregate-write-known-2 : tie.Need-slice-aggregate-write-known-2
 slice-aggregate-write-known-2 c = search needs
 
 add-write-known-2 : tie.Need-add-write-known-2
-add-write-known-2 c = search needs
+add-write-known-2 c =
+    let at-write-known = c .before .before .before in
+    let at-third = at-write-known .before .before .before .before in
+    let at-checks = at-third .before .before .before .before in
+    let at-shared-slice-known5 = at-checks .before .before .before .before in
+    let at-shared-slice-known = at-shared-slice-known5 .before .before .before .before in
+    let given = at-shared-slice-known .before in
+    record { fits = omega (arith, given .pre .2, given .pre .0 .valid .subwords) }
 
 write-known-requires-2 : tie.Need-write-known-requires-2
 write-known-requires-2 c κs =
@@ -69,8 +81,9 @@ write-known-requires-2 c κs =
     let at-write-known = c .before .before .before .before in
     let at-third = at-write-known .before .before .before .before in
     let at-checks = at-third .before .before .before .before in
-    let at-shared-slice-known4 = at-checks .before .before .before .before in
-    at-shared-slice-known4 .before .before .before .before in
+    let at-shared-slice-known5 = at-checks .before .before .before .before in
+    let at-shared-slice-known = at-shared-slice-known5 .before .before .before .before in
+    at-shared-slice-known .before in
     let checks-ensures =
     let at-write-known = c .before .before .before .before in
     let at-third = at-write-known .before .before .before .before in
@@ -94,8 +107,9 @@ add-write-known-3 c =
     let at-write-known = at-write-known-arg2 .before .before .before .before in
     let at-third = at-write-known .before .before .before .before in
     let at-checks = at-third .before .before .before .before in
-    let at-shared-slice-known4 = at-checks .before .before .before .before in
-    let given = at-shared-slice-known4 .before .before .before .before in
+    let at-shared-slice-known5 = at-checks .before .before .before .before in
+    let at-shared-slice-known = at-shared-slice-known5 .before .before .before .before in
+    let given = at-shared-slice-known .before in
     record { fits = omega (arith, given .pre .2, given .pre .0 .valid .subwords) }
 
 write-known-requires-3 : tie.Need-write-known-requires-3
@@ -106,8 +120,9 @@ write-known-requires-3 c κs =
     let at-write-known = at-out .before in
     let at-third = at-write-known .before .before .before .before in
     let at-checks = at-third .before .before .before .before in
-    let at-shared-slice-known4 = at-checks .before .before .before .before in
-    at-shared-slice-known4 .before .before .before .before in
+    let at-shared-slice-known5 = at-checks .before .before .before .before in
+    let at-shared-slice-known = at-shared-slice-known5 .before .before .before .before in
+    at-shared-slice-known .before in
     let checks-ensures =
     let at-write-known2 = c .before .before .before .before in
     let at-out = at-write-known2 .before .before .before .before in
@@ -137,8 +152,9 @@ write-known-requires-4 c κs =
     let at-fourth = at-out .before .before .before .before in
     let at-remainders = at-fourth .before .before .before .before in
     let at-checks = at-remainders .before in
-    let at-shared-slice-known4 = at-checks .before .before .before .before in
-    let given = at-shared-slice-known4 .before .before .before .before in
+    let at-shared-slice-known5 = at-checks .before .before .before .before in
+    let at-shared-slice-known = at-shared-slice-known5 .before .before .before .before in
+    let given = at-shared-slice-known .before in
     let (fits, high, most, _, a, _, _, _) = given .pre in (
       record {
         valid = fits .valid;
@@ -177,6 +193,7 @@ write-four-spec =
     tie.close
     (tie.spec
     cast-n
+    cast-f
     cast-checks
     checks-requires
     cast-k
