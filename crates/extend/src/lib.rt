@@ -76,7 +76,12 @@ fn extend_row(
     let k = block::codeword::further(p);
     let word = merge(p, pending, block, i);
     let left = divider::reed_solomon::residue(u, past, k, &word[..n]);
-    splice(divider::evaluation::at_roots(first, &left[..k], to), from, to, row)
+    splice(
+        divider::evaluation::at_roots(first, &left[..k], to),
+        from,
+        to,
+        row,
+    )
 }
 
 // The rows of the unsettled subwords go on with syndromes `from` to `to` - 1, in the block as corrected so far, by the

@@ -49,7 +49,7 @@ module _ (n r : ℕ) (S e : Series) (hn : n ≤ 255) (few : 2 * weight n e ≤ r
     below-ω = below-evaluator e n;
     agree =
         λ i l. ⊠-agree (locator n e) S (syndrome 1 n e) i (λ j h. sym (agrees j (omega arith)))
-            ∙ ap (λ f. f i) (key e n);
+        ∙ ap (λ f. f i) (key e n);
   }
 
   least : L ≤ weight n e
