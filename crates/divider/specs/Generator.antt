@@ -5,7 +5,7 @@
 --   aligned first k   the same at the top of 48 coefficients: times z^(48 - k)
 --
 -- Proved: the rest has degree below k and, at each of the k roots, the value of z^k (rest-value).
-use Prim.Native.Nat.{ℕ, zero, suc, _+_, _-_, _<_}
+use Prim.Native.Nat.{ℕ, zero, suc, _-_, _<_}
 use mathlib.Core.Path.{_≡_, sym, _∙_, ap}
 use native.Mathlib.Decide.{ℕ-discrete}
 use native.Mathlib.Omega.{arith}
