@@ -24,7 +24,6 @@ use Rattle.series.specs.Series.{Series, _⊞_}
 use Rattle.profile.specs.declared.Profile.{Profile}
 use Rattle.profile.specs.Definition.{capability, first-root, checks}
 use Rattle.profile.specs.Valid.{Valid, checks-is, checks-high, checks-mono, checks-least}
-use Rattle.code.specs.Word.{syndrome}
 use Rattle.code.specs.Systematic.{syndrome-⊞, syndrome-sum}
 use Rattle.code.specs.Definition.{syndrome-of, InCode-of, subword, nested, Codeword}
 use Rattle.code.specs.Block.{Agree, syndrome-nested}

@@ -12,7 +12,6 @@ use Rattle.field.specs.declared.Gf.{Gf}
 use Rattle.series.specs.Series.{Series}
 use Rattle.series.specs.Array.{bytes}
 use Rattle.profile.specs.declared.Profile.{Profile}
-use Rattle.code.specs.Word.{syndrome}
 use Rattle.code.specs.Combined.{combined}
 use Rattle.code.specs.Definition.{syndrome-of}
 use Rattle.block.specs.Table.{table}

@@ -28,7 +28,6 @@ use Rattle.profile.specs.declared.questions.Caller.the-variants.{Card}
 use Rattle.profile.specs.Questions.{read, profile-of}
 use Rattle.profile.specs.QuestionsLaws.{admitted-read}
 use Rattle.profile.specs.Valid.{Valid, admitted-valid}
-use Rattle.code.specs.Word.{syndrome}
 use Rattle.code.specs.Definition.{syndrome-of, subword, Encodes}
 use Rattle.code.specs.Check.{sums, sums-codeword}
 

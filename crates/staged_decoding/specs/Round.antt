@@ -21,7 +21,6 @@ use Rattle.series.specs.Series.{Series}
 use Rattle.series.specs.Interpolation.{Distinct, solution-solves, solution-unique}
 use Rattle.profile.specs.declared.Profile.{Profile}
 use Rattle.profile.specs.Valid.{Valid}
-use Rattle.code.specs.Word.{syndrome}
 use Rattle.code.specs.Definition.{syndrome-of, nested}
 use Rattle.staged_decoding.specs.Definition.{nth, put, Line, Progress, open?, unsettled}
 use Rattle.staged_decoding.specs.Definition.{node, system, fresh, window, extend}
