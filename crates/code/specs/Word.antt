@@ -16,7 +16,7 @@ use Rattle.series.specs.Shift.{zpow, drop}
 use Rattle.series.specs.Value.{value}
 use Rattle.series.specs.Interpolation.{interpolate}
 
--- the one place where the first root stands
+-- FORMAT 2.7: the roots begin with α^f
 unfoldable pub root : ℕ → ℕ → F
 root f j = pow α (f + j)
 

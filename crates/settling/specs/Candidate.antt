@@ -1,5 +1,5 @@
 -- The candidate: the pattern that two polynomials Λ and Ω put forward, whatever they are. Settling is to put it
--- to the test.
+-- to the test. The first root is α.
 --
 --   candidate k Λ Ω   at position p, with w = W p: w·Ω(w)/Λ_odd(w) if w is a root of Λ, else zero. k coefficients of
 --                     each are read

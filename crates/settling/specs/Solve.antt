@@ -1,4 +1,5 @@
--- What the key-equation solver finds where a pattern explains the syndromes: its locator and its evaluator.
+-- What the key-equation solver finds where a pattern explains the syndromes: its locator and its evaluator. The first
+-- root is α.
 --
 --   Found S r n e   after r iterations over S, with Λ_0 the constant term of Λ, which is not zero: Λ is Λ_0 times the
 --                   locator of the pattern e, its numerator P is Λ_0 times the evaluator of e, and the length is the
