@@ -12,7 +12,7 @@ ghost use Rattle.block.specs.Table.{table};
 ghost use Rattle.block.specs.CodewordDefinition.{Tables, Further};
 ghost use Rattle.staged_decoding.specs.Definition.{decode as Decode};
 ghost use Rattle.staged_decoding.specs.Clean.{untouched};
-ghost use Rattle.stages.specs.Report.{Tells};
+ghost use Rattle.stages.specs.Report.{Counted, Tells};
 ghost use Rattle.stages.specs.View.{Reached};
 ghost use Rattle.decoder.specs.Definition.{concluded, Gives};
 use field::Gf;
@@ -55,7 +55,7 @@ pub fn blank() -> [u8; SYMBOLS]
 // What is answered where decoding ended: the block goes out if every subword is settled and it is a codeword.
 fn conclude(p: Profile, form: Form, u: &[u64], e: Ending, block: &[u8], out: &mut [u8]) -> Reading
     requires { ⌜ Fits p (now block) × (length (now out) ≡ length (now block)) × Further p (now u)
-        × (e .settled ≡ true → Subwords p (bytes (now block))) ⌝ }
+        × (e .settled ≡ true → Subwords p (bytes (now block)) × Counted (p .subwords) (e .lines)) ⌝ }
     ensures { λ r. ⌜ ((y : Series) → Reached p form y (bytes (now (block .entry))) e
         → Gives form (concluded p (Decode p y)) (now (out .entry)) (now (out .exit)) r) ⌝ }
 {
@@ -69,11 +69,7 @@ fn conclude(p: Profile, form: Form, u: &[u64], e: Ending, block: &[u8], out: &mu
     let lines = e.lines;
     Reading {
         answer: Answer::Accepted,
-        report: Report {
-            lines: lines,
-            changed: stages::report::changed(lines, p.subwords as usize),
-            last: e.stage,
-        },
+        report: stages::report::summed(lines, p.subwords as usize, e.stage),
     }
 }
 

@@ -1,33 +1,38 @@
 -- What an accepted outcome means.
 --
 -- Proved: the block is a codeword (accepted-codeword), and as received past its end (accepted-past); the count of a
--- line is the number of positions where received and decoded symbol differ (accepted-count), and the changed symbols
--- are the sum of these (accepted-changed); the last stage is at most v (accepted-last). The rounds of a corrected
+-- line is the number of positions where received and decoded symbol differ (accepted-count), its bits are the bits in
+-- which they do (accepted-line-bits), none if it is clean (clean-bits), and the changed symbols and bits are the sums of
+-- these (accepted-changed, accepted-bits); the last stage is at most v (accepted-last). The rounds of a corrected
 -- subword, joined, are syndromes that are settled, at the stage of its line, by what the decoded subword differs by
 -- from the received one (accepted-pattern); a clean one has none (clean-rounds). Lines that are no subword's are clean
--- (accepted-line-past).
+-- (accepted-line-past). Where every subword is settled no line has more than 8 × n bits (settled-bits).
 use Prim.Native.Nat.{ℕ, zero, suc, _*_, _≤_, _<_}
 use mathlib.Core.Path.{_≡_, refl, sym, ap, _∙_}
 use mathlib.Core.List.{[]}
 use mathlib.Core.Option.{none, some, Option·getD}
+use native.Mathlib.Decide.{decLt}
 use native.Mathlib.Omega.{arith}
 use Rattle.series.specs.Series.{Series, _⊞_}
-use Rattle.series.specs.Word.{entry, word, weight, entry-word}
+use Rattle.series.specs.Word.{entry, word, weight, entry-word, zero-weight}
 use Rattle.key_equation.specs.Run.{joined}
 use Rattle.profile.specs.declared.Profile.{Profile}
 use Rattle.profile.specs.Definition.{capability, first-root, block-size}
 use Rattle.profile.specs.Valid.{Valid}
 use Rattle.code.specs.Definition.{subword, Codeword}
 use Rattle.settling.specs.Settle.{settle-one, settle-cong}
-use Rattle.staged_decoding.specs.Definition.{total, clean, corrected, count-of, stage-of, settle-at}
-use Rattle.staged_decoding.specs.Definition.{Progress, start, line-at, line-rounds, extend}
-use Rattle.staged_decoding.specs.Definition.{Report, report, accepted, decode, differences}
+use Rattle.staged_decoding.specs.Definition as staged
+use Rattle.staged_decoding.specs.Definition.{total, Verdict, clean, corrected, count-of, stage-of, Line}
+use Rattle.staged_decoding.specs.Definition.{clean-line, bit-weight, line-by, settle-at, Progress, start, line-at}
+use Rattle.staged_decoding.specs.Definition.{line-rounds, extend, stages, Report, report, accepted, decode}
+use Rattle.staged_decoding.specs.Definition.{differences, bit-differences}
 use Rattle.staged_decoding.specs.Count.{total-cong}
-use Rattle.staged_decoding.specs.Stage.{line-of-is, stage-past, stage-line-past}
+use Rattle.staged_decoding.specs.Stage.{verdict-at-is, stage-past, stage-line-past}
 use Rattle.staged_decoding.specs.Rounds.{rounds-joined}
 use Rattle.staged_decoding.specs.Course.{before-stage, after-stage, Accepts, accepted-course}
-use Rattle.staged_decoding.specs.Differences.{differences-weight}
-use Rattle.staged_decoding.specs.Sound.{Settled, sound-after, line-there}
+use Rattle.staged_decoding.specs.Course.{settled-course}
+use Rattle.staged_decoding.specs.Differences.{differences-weight, bit-differences-weight, bit-weight-none, bit-weight-le}
+use Rattle.staged_decoding.specs.Sound.{Settled, settled-line}
 
 pub accepted-codeword : (p : Profile) (y d : Series) (x : Report) → decode p y ≡ accepted d x → Codeword p d
 accepted-codeword p y d x e = accepted-course p y d x .0 e .code
@@ -62,22 +67,22 @@ module _ (p : Profile) (y d : Series) (x : Report) (e : decode p y ≡ accepted 
       ap (λ (s : Series). s k) (a .block) ∙ stage-past p (a .last) (before-stage p y (a .last)) k h
       ∙ before-past p y (a .last) k h
 
-  pub accepted-line-past : (i : ℕ) → p .subwords ≤ i → x .line i ≡ clean
+  pub accepted-line-past : (i : ℕ) → p .subwords ≤ i → x .line i ≡ clean-line
   accepted-line-past i h =
       line-is i
-      ∙ ap (λ o. Option·getD o clean)
+      ∙ ap (λ o. Option·getD o clean-line)
       (stage-line-past p (a .last) (before-stage p y (a .last)) i h ∙ before-line-past p y (a .last) i h)
 
-  pub clean-rounds : (i : ℕ) → x .line i ≡ clean → x .rounds i ≡ []
+  verdict-is : (i : ℕ) (v : Verdict) → x .line i .verdict ≡ v → line-at g i .verdict ≡ v
+  verdict-is i v f = ap (λ (l : Line). l .verdict) (sym (line-is i)) ∙ f
+
+  pub clean-rounds : (i : ℕ) → x .line i .verdict ≡ clean → x .rounds i ≡ []
   unfolding report
   clean-rounds i f =
-      ap (λ (x : Report). x .rounds i) (a .says) ∙ ap (line-rounds p (g .row i)) (sym (line-is i) ∙ f)
+      ap (λ (x : Report). x .rounds i) (a .says) ∙ ap (line-rounds p (g .row i)) (verdict-is i clean f)
 
   settled : (i : ℕ) → i < p .subwords → Settled p y (suc (a .last)) g i (x .line i)
-  settled i h =
-      let (l, f) = line-there p g (a .over .none-left) i h in
-      let s : Settled p y (suc (a .last)) g i l = rw f at (sound-after p y (a .last) i h) in
-      rw (line-is i ∙ ap (λ o. Option·getD o clean) f) s
+  settled i h = rw (line-is i) (settled-line p y (a .last) (a .over .none-left) i h)
 
   abbrev changes : ℕ → ℕ
   changes i = weight (p .length) (subword (p .length) (y ⊞ g .block) i)
@@ -86,15 +91,41 @@ module _ (p : Profile) (y d : Series) (x : Report) (e : decode p y ≡ accepted 
   changes-are i =
       sym (differences-weight p y d i ∙ ap (λ s. weight (p .length) (subword (p .length) (y ⊞ s) i)) (a .block))
 
-  pub accepted-count : (i : ℕ) → i < p .subwords → count-of (x .line i) ≡ differences p y d i
-  accepted-count i h = ap count-of (settled i h .line-is)
-      ∙ line-of-is (settled i h .stage) (changes i) .0 ∙ changes-are i
+  pub accepted-count : (i : ℕ) → i < p .subwords → count-of (x .line i .verdict) ≡ differences p y d i
+  accepted-count i h = ap (λ (l : Line). count-of (l .verdict)) (settled i h .line-is)
+      ∙ verdict-at-is (settled i h .stage) (changes i) .0 ∙ changes-are i
+
+  pub accepted-line-bits : (i : ℕ) → i < p .subwords → x .line i .bits ≡ bit-differences p y d i
+  accepted-line-bits i h =
+      ap (λ (l : Line). l .bits) (settled i h .line-is)
+      ∙ sym (bit-differences-weight p y d i
+      ∙ ap (λ s. bit-weight (p .length) (subword (p .length) (y ⊞ s) i)) (a .block))
+
+  pub clean-bits : (i : ℕ) → x .line i .verdict ≡ clean → x .line i .bits ≡ 0
+  clean-bits i f = go (decLt i (p .subwords))
+    where
+      n : ℕ
+      n = p .length
+
+      go : Dec (i < p .subwords) → x .line i .bits ≡ 0
+      go (no h) = ap (λ (l : Line). l .bits) (accepted-line-past i (omega arith))
+      go (yes h) =
+          let none-changed : weight n (subword n (y ⊞ d) i) ≡ 0 =
+          sym (differences-weight p y d i) ∙ sym (accepted-count i h) ∙ ap count-of f in
+          accepted-line-bits i h ∙ bit-differences-weight p y d i ∙ bit-weight-none n _ (zero-weight n _ none-changed)
 
   pub accepted-changed : x .changed ≡ total (p .subwords) (differences p y d)
   unfolding report
   accepted-changed =
       ap (λ (x : Report). x .changed) (a .says)
-      ∙ total-cong (p .subwords) _ _ (λ i h. ap count-of (sym (line-is i)) ∙ accepted-count i h)
+      ∙ total-cong (p .subwords) _ _
+      (λ i h. ap (λ (l : Line). count-of (l .verdict)) (sym (line-is i)) ∙ accepted-count i h)
+
+  pub accepted-bits : x .bits ≡ total (p .subwords) (bit-differences p y d)
+  unfolding report
+  accepted-bits =
+      ap (λ (x : Report). x .bits) (a .says)
+      ∙ total-cong (p .subwords) _ _ (λ i h. ap (λ (l : Line). l .bits) (sym (line-is i)) ∙ accepted-line-bits i h)
 
   last-is : x .last ≡ a .last
   unfolding report
@@ -103,7 +134,7 @@ module _ (p : Profile) (y d : Series) (x : Report) (e : decode p y ≡ accepted 
   pub accepted-last : x .last ≤ p .nested
   accepted-last = omega (arith, last-is, a .over .low)
 
-  pub accepted-pattern : Valid p → (i k s : ℕ) → i < p .subwords → x .line i ≡ corrected k s
+  pub accepted-pattern : Valid p → (i k s : ℕ) → i < p .subwords → x .line i .verdict ≡ corrected k s
       → (s ≤ x .last) × (settle-at p s (entry (joined (x .rounds i)))
       ≡ some (word (p .length) (subword (p .length) (y ⊞ d) i)))
   unfolding report
@@ -116,7 +147,9 @@ module _ (p : Profile) (y d : Series) (x : Report) (e : decode p y ≡ accepted 
       x-settled = settled i h
 
       at-stage : x-settled .stage ≡ s
-      at-stage = sym (line-of-is (x-settled .stage) (changes i) .1) ∙ ap stage-of (sym (x-settled .line-is) ∙ f)
+      at-stage =
+          sym (verdict-at-is (x-settled .stage) (changes i) .1)
+          ∙ ap stage-of (ap (λ (l : Line). l .verdict) (sym (x-settled .line-is)) ∙ f)
 
       s-low : s ≤ p .nested
       s-low = omega (arith, at-stage, x-settled .passed, a .over .low)
@@ -124,7 +157,7 @@ module _ (p : Profile) (y d : Series) (x : Report) (e : decode p y ≡ accepted 
       rounds : entry (joined (x .rounds i)) ≡ entry (word (2 * capability p s) (g .row i))
       rounds =
           ap (λ (x : Report). entry (joined (x .rounds i))) (a .says)
-          ∙ ap (λ l. entry (joined (line-rounds p (g .row i) l))) (sym (line-is i) ∙ f)
+          ∙ ap (λ v. entry (joined (line-rounds p (g .row i) v))) (verdict-is i (corrected k s) f)
           ∙ ap entry (rounds-joined p ok (g .row i) s s-low)
 
       agree : settle-at p s (entry (word (2 * capability p s) (g .row i)))
@@ -136,3 +169,15 @@ module _ (p : Profile) (y d : Series) (x : Report) (e : decode p y ≡ accepted 
           settle-one (first-root p) (capability p s) (p .length) (g .row i) _ (ok .length .1)
           (rw at-stage at (x-settled .explained))
           ∙ ap (λ b. some (word (p .length) (subword (p .length) (y ⊞ b) i))) (sym (a .block))
+
+-- ---- all settled
+
+pub settled-bits : (p : Profile) (y : Series) (r : ℕ) (g : Progress)
+    → stages p (p .nested) 0 (start p y) ≡ staged.settled r g
+    → (i : ℕ) → i < p .subwords → line-at g i .bits ≤ 8 * p .length
+settled-bits p y r g e i h =
+    let (over, is) = settled-course p y r g e in
+    let bits : line-at g i .bits ≡ bit-weight (p .length) _ =
+    ap (λ (g : Progress). line-at g i .bits) is
+    ∙ ap (λ (l : Line). l .bits) (settled-line p y r (over .none-left) i h .line-is) in
+    omega (arith, bits, bit-weight-le (p .length) _)

@@ -3,10 +3,13 @@
 -- Proved: the count is zero exactly if no number passes (count-none, none-count), falls with the test (count-imp), and
 -- is a matter of the numbers below n (count-cong), at most n (count-most), one number after the other (count-next); the
 -- numbers that pass rise (nth-rising), are below n (nth-lt), pass (nth-passes) and are all there, each numbered by how
--- many stand before it (nth-rank, rank-nth, rank-lt); a sum over them is a sum over all that pass (nth-sum).
-use Prim.Native.Nat.{ℕ, zero, suc, _+_, _≤_, _<_}
+-- many stand before it (nth-rank, rank-nth, rank-lt); a sum over them is a sum over all that pass (nth-sum). A total is
+-- that of its terms (total-cong), one after the other (total-none, total-more), and bounded by theirs (total-zero,
+-- total-le).
+use Prim.Native.Nat.{ℕ, zero, suc, _+_, _*_, _≤_, _<_}
 use mathlib.Core.Path.{_≡_, refl, sym, ap, ap₂, _∙_}
 use mathlib.Core.Bool.{Bool, true, false, cond, true≢false}
+use native.Mathlib.Nat.{mul-suc}
 use native.Mathlib.Numerals.{add-one}
 use native.Mathlib.Omega.{arith}
 use native.Mathlib.Decide.{decLt, ℕ-discrete}
@@ -180,3 +183,18 @@ pub total-zero : (n : ℕ) (f : ℕ → ℕ) → ((i : ℕ) → i < n → f i �
 unfolding total
 total-zero zero f h = refl
 total-zero (suc n) f h = omega (arith, total-zero n f (λ i l. h i (omega arith)), h n (omega arith))
+
+pub total-le : (n k : ℕ) (f : ℕ → ℕ) → ((i : ℕ) → i < n → f i ≤ k) → total n f ≤ k * n
+unfolding total
+total-le zero k f h = omega arith
+total-le (suc n) k f h =
+    let low = total-le n k f (λ i l. h i (omega arith)) in
+    rw (mul-suc k n) (omega (arith, low, h n (omega arith)))
+
+pub total-none : (f : ℕ → ℕ) → total 0 f ≡ 0
+unfolding total
+total-none f = refl
+
+pub total-more : (n : ℕ) (f : ℕ → ℕ) → total (n + 1) f ≡ total n f + f n
+unfolding total
+total-more n f = rw add-one

@@ -4,7 +4,9 @@
 --
 --   count n b            how many numbers below n pass the test b; nth n b w: number w of them; total n f: f
 --                        0 + .. + f (n − 1)
---   Line                 what the report says of a subword: clean, or corrected (FORMAT's mended) with count and stage
+--   Verdict              on a subword: clean, or corrected (FORMAT's mended) with count and stage
+--   Line                 what the report says of a subword: its verdict, and how many of its bits were changed
+--   bit-weight n f       how many bits are set in the first n symbols of f
 --   Progress             the block as corrected so far, the lines of the subwords that are settled, the rows
 --                        of syndromes
 --   start p y            the progress before stage 0, y being received
@@ -18,15 +20,18 @@
 --   rounds-of p s r      the stages 0 to r, taken as rounds of the row s
 --   Report, Outcome      what a decoder answers
 --   decode p y           what the received block y is decoded to
---   differences p s t i  at how many positions subword i differs in the blocks s and t
+--   differences p s t i  at how many positions subword i differs in the blocks s and t; bit-differences: in how many
+--                        bits
 use Prim.Native.Nat.{ℕ, zero, suc, _+_, _-_, _*_}
 use mathlib.Core.Bool.{Bool, true, false, not, cond, _&&_}
 use mathlib.Core.Logic.{ite}
 use mathlib.Core.List.{List, [], _∷_, _++_}
 use mathlib.Core.Option.{Option, none, some, Option·getD}
 use native.Mathlib.Decide.{ℕ-discrete}
+use lib.Bits.{bitXor}
+use lib.Count.{ones}
 use lib.Dec.{leb, ltb, eqb}
-use Rattle.field.specs.Field.{F, α, _≟_, pow}
+use Rattle.field.specs.Field.{F, α, _≟_, pow, byte}
 use Rattle.series.specs.Series.{Series, _⊞_, _⊠_}
 use Rattle.series.specs.Shift.{zpow, drop}
 use Rattle.series.specs.Interpolation.{solution}
@@ -65,21 +70,41 @@ each (suc n) f a = f n (each n f a)
 
 -- ---- lines
 
-pub data Line : Type 0 where
-  clean : Line
-  corrected : (count stage : ℕ) → Line
+pub data Verdict : Type 0 where
+  clean : Verdict
+  corrected : (count stage : ℕ) → Verdict
 
 -- settled at stage r by k changes. FORMAT 7.2: clean is a strip that was settled at stage 0 by the empty pattern
-abbrev pub line-of : ℕ → ℕ → Line
-line-of r k = cond (eqb r 0 && eqb k 0) clean (corrected k r)
+abbrev pub verdict-at : ℕ → ℕ → Verdict
+verdict-at r k = cond (eqb r 0 && eqb k 0) clean (corrected k r)
 
-abbrev pub count-of : Line → ℕ
+abbrev pub count-of : Verdict → ℕ
 count-of clean = 0
 count-of (corrected k r) = k
 
-abbrev pub stage-of : Line → ℕ
+abbrev pub stage-of : Verdict → ℕ
 stage-of clean = 0
 stage-of (corrected k r) = r
+
+pub record Line : Type 0 where
+  pub verdict : Verdict
+  pub bits : ℕ
+
+-- .. in b bits
+abbrev pub line-of : (r k b : ℕ) → Line
+line-of r k b = record { verdict = verdict-at r k; bits = b }
+
+-- nothing was changed
+abbrev pub clean-line : Line
+clean-line = record { verdict = clean; bits = 0 }
+
+-- of a pattern: FORMAT 7.10, since received byte exclusive-or mended byte is its symbol
+unfoldable pub bit-weight : ℕ → Series → ℕ
+bit-weight n f = total n (λ q. ones (byte (f q)))
+
+-- the line of a subword of n symbols that the pattern e settles at stage r
+abbrev pub line-by : ℕ → ℕ → Series → Line
+line-by n r e = line-of r (weight n e) (bit-weight n e)
 
 -- ---- progress
 
@@ -121,7 +146,7 @@ abbrev pub correct : Profile → ℕ → ℕ → Option (List F) → Progress �
 correct p r i none g = g
 correct p r i (some w) g = record {
   block = add (p .length) i (entry w) (g .block);
-  line = put i (some (line-of r (weight (p .length) (entry w)))) (g .line);
+  line = put i (some (line-by (p .length) r (entry w))) (g .line);
   row = g .row;
 }
 
@@ -192,7 +217,7 @@ rounds-of p s zero = round-of p s 0 ∷ []
 rounds-of p s (suc r) = rounds-of p s r ++ (round-of p s (suc r) ∷ [])
 
 -- FORMAT 7.5: one round for each stage that a mended strip went through; none for a clean one
-abbrev pub line-rounds : Profile → Series → Line → List (List F)
+abbrev pub line-rounds : Profile → Series → Verdict → List (List F)
 line-rounds p s clean = []
 line-rounds p s (corrected k r) = rounds-of p s r
 
@@ -201,17 +226,19 @@ pub record Report : Type 0 where
   pub line : ℕ → Line
   pub rounds : ℕ → List (List F)
   pub changed : ℕ
+  pub bits : ℕ
   pub last : ℕ
 
 -- lines that are no subword's are clean
 abbrev pub line-at : Progress → ℕ → Line
-line-at g i = Option·getD (g .line i) clean
+line-at g i = Option·getD (g .line i) clean-line
 
 unfoldable pub report : Profile → ℕ → Progress → Report
 report p r g = record {
   line = line-at g;
-  rounds = λ i. line-rounds p (g .row i) (line-at g i);
-  changed = total (p .subwords) (λ i. count-of (line-at g i));
+  rounds = λ i. line-rounds p (g .row i) (line-at g i .verdict);
+  changed = total (p .subwords) (λ i. count-of (line-at g i .verdict));
+  bits = total (p .subwords) (λ i. line-at g i .bits);
   last = r;
 }
 
@@ -241,3 +268,8 @@ decode p y = outcome-of p (stages p (p .nested) 0 (start p y))
 -- FORMAT 7.3: the number of places at which the received strip and the mended strip differ
 unfoldable pub differences : Profile → Series → Series → ℕ → ℕ
 differences p s t i = count (p .length) (λ q. not (holds (subword (p .length) s i q ≟ subword (p .length) t i q)))
+
+-- FORMAT 7.10, wrong bits: the number of ones in received byte exclusive-or mended byte, added over the strip
+unfoldable pub bit-differences : Profile → Series → Series → ℕ → ℕ
+bit-differences p s t i = total (p .length)
+    (λ q. ones (bitXor (byte (subword (p .length) s i q)) (byte (subword (p .length) t i q))))

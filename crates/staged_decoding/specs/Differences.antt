@@ -1,20 +1,26 @@
 -- Where two blocks differ, and their sum.
 --
 -- Proved: subwords and syndromes of a sum (subword-⊞, syndrome-sum-block); the differences of two blocks are the
--- changes of their sum (differences-weight); blocks with the same symbols have none (differences-none).
-use Prim.Native.Nat.{ℕ, zero, suc, _<_}
-use mathlib.Core.Path.{_≡_, sym, ap, _∙_}
+-- changes of their sum (differences-weight); blocks with the same symbols have none (differences-none). The same bit by
+-- bit: bit-differences-weight, bit-differences-none. What the line by a pattern says depends on its symbols alone (line-by-cong), its count
+-- and its bits are the differences (line-by-differs), and of n symbols it has at most 8 × n bits (bit-weight-le).
+use Prim.Native.Nat.{ℕ, zero, suc, _*_, _≤_, _<_}
+use mathlib.Core.Path.{_≡_, sym, ap, ap₂, _∙_}
 use mathlib.Core.Bool.{Bool, not}
-use Rattle.field.specs.Field.{_⊕_, _≟_, ⊕-self, ⊕-equal}
+use native.Mathlib.Omega.{arith}
+use lib.Bits.{bitXor, xor-self}
+use lib.Count.{ones, ones-le}
+use Rattle.field.specs.Field.{𝟎, _⊕_, _≟_, ⊕-self, ⊕-equal, byte, byte-lt, byte-xor, byte-zero}
 use Rattle.series.specs.Series.{Series, _⊞_, ⊞-at}
 use Rattle.series.specs.Decide.{holds, holds-yes, holds-no}
-use Rattle.series.specs.Word.{weight, weight-none, weight-skip, weight-take}
+use Rattle.series.specs.Word.{weight, weight-none, weight-skip, weight-take, weight-cong}
 use Rattle.profile.specs.declared.Profile.{Profile}
 use Rattle.code.specs.Word.{syndrome}
 use Rattle.code.specs.Systematic.{syndrome-cong, syndrome-⊞}
 use Rattle.code.specs.Definition.{subword}
-use Rattle.staged_decoding.specs.Definition.{count, differences}
+use Rattle.staged_decoding.specs.Definition.{count, line-of, bit-weight, line-by, differences, bit-differences}
 use Rattle.staged_decoding.specs.Count.{count-yes, count-no, count-zero, none-count}
+use Rattle.staged_decoding.specs.Count.{total-cong, total-zero, total-le}
 
 -- ---- sums of blocks
 
@@ -56,3 +62,43 @@ pub differences-none : (p : Profile) (s t : Series) (i : ℕ)
 unfolding differences
 differences-none p s t i h =
     none-count (p .length) _ (λ q l. ap not (holds-yes (subword (p .length) s i q ≟ subword (p .length) t i q) (h q l)))
+
+-- ---- bits
+
+ones-none : (k : ℕ) → k ≡ 0 → ones k ≡ 0
+ones-none k e = omega (arith, ones-le 0 k (omega arith))
+
+pub bit-weight-cong : (n : ℕ) (f g : Series) → ((q : ℕ) → q < n → f q ≡ g q) → bit-weight n f ≡ bit-weight n g
+unfolding bit-weight
+bit-weight-cong n f g h = total-cong n _ _ (λ q l. ap (λ x. ones (byte x)) (h q l))
+
+pub bit-weight-none : (n : ℕ) (f : Series) → ((q : ℕ) → q < n → f q ≡ 𝟎) → bit-weight n f ≡ 0
+unfolding bit-weight
+bit-weight-none n f h = total-zero n _ (λ q l. ones-none _ (ap byte (h q l) ∙ byte-zero))
+
+pub bit-weight-le : (n : ℕ) (f : Series) → bit-weight n f ≤ 8 * n
+unfolding bit-weight
+bit-weight-le n f = total-le n 8 _ (λ q l. ones-le 8 _ (byte-lt (f q)))
+
+pub bit-differences-weight : (p : Profile) (s t : Series) (i : ℕ)
+    → bit-differences p s t i ≡ bit-weight (p .length) (subword (p .length) (s ⊞ t) i)
+unfolding bit-differences bit-weight
+bit-differences-weight p s t i = total-cong (p .length) _ _
+    (λ q l. ap ones (sym (ap byte (subword-⊞ (p .length) s t i q) ∙ byte-xor _ _)))
+
+pub bit-differences-none : (p : Profile) (s t : Series) (i : ℕ)
+    → ((q : ℕ) → q < p .length → subword (p .length) s i q ≡ subword (p .length) t i q) → bit-differences p s t i ≡ 0
+unfolding bit-differences
+bit-differences-none p s t i h =
+    total-zero (p .length) _ (λ q l. ones-none _ (ap (λ x. bitXor (byte x) _) (h q l) ∙ xor-self _))
+
+-- ---- lines
+
+pub line-by-cong : (n r : ℕ) (f g : Series) → ((q : ℕ) → q < n → f q ≡ g q) → line-by n r f ≡ line-by n r g
+line-by-cong n r f g h = ap₂ (line-of r) (weight-cong n f g h) (bit-weight-cong n f g h)
+
+pub line-by-differs : (p : Profile) (r : ℕ) (s t : Series) (i : ℕ)
+    → line-by (p .length) r (subword (p .length) (s ⊞ t) i)
+    ≡ line-of r (differences p s t i) (bit-differences p s t i)
+line-by-differs p r s t i =
+    ap₂ (line-of r) (sym (differences-weight p s t i)) (sym (bit-differences-weight p s t i))

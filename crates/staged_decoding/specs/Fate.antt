@@ -20,7 +20,7 @@ use Rattle.field.specs.Field.{F, 𝟎, α, _⊕_, _⊙_, pow, ⊕-comm, ⊕-zer
 use Rattle.series.specs.Sum.{sum, sum-cong, sum-⊕}
 use Rattle.series.specs.Series.{Series, _⊞_}
 use Rattle.series.specs.Shift.{cut-low}
-use Rattle.series.specs.Word.{entry, word, weight, entry-word, weight-cong}
+use Rattle.series.specs.Word.{word, entry-word}
 use Rattle.profile.specs.declared.Profile.{Profile}
 use Rattle.profile.specs.Definition.{capability, first-root}
 use Rattle.profile.specs.Valid.{Valid, capability-mono}
@@ -31,19 +31,21 @@ use Rattle.settling.specs.Definition.{Explains}
 use Rattle.settling.specs.Settle.{settle-one, settle-cong}
 use Rattle.staged_decoding.specs.Definition.{count, nth, Line, line-of, Progress, start, unsettled-line, open?}
 use Rattle.staged_decoding.specs.Definition.{unsettled, found, stage, fresh, window, extend, round, differences}
+use Rattle.staged_decoding.specs.Definition.{bit-differences}
 use Rattle.staged_decoding.specs.Count.{count-cong, rank-lt, nth-rank, nth-sum}
 use Rattle.staged_decoding.specs.Stage.{found-open, found-settled, stage-row}
 use Rattle.staged_decoding.specs.Stage.{stage-line, stage-subword, stage-stays}
 use Rattle.staged_decoding.specs.Round.{window-low, window-in, extend-open, Meets, system-unique}
 use Rattle.staged_decoding.specs.Course.{before-stage, after-stage, Entered, up-to}
 use Rattle.staged_decoding.specs.Differences.{subword-⊞, syndrome-sum-block, differences-weight}
+use Rattle.staged_decoding.specs.Differences.{line-by-cong, line-by-differs}
 use Rattle.staged_decoding.specs.Restorable.{beyond?, beyond, Reached, Unmistaken, Least}
 
 pub record Done (p : Profile) (c y : Series) (r : ℕ) (g : Progress) (i : ℕ) (l : Line) : Type 0 where
   pub stage : ℕ
   pub passed : stage < r
   pub least : Least p c y i stage
-  pub line-is : l ≡ line-of stage (differences p y c i)
+  pub line-is : l ≡ line-of stage (differences p y c i) (bit-differences p y c i)
   pub same : (q : ℕ) → q < p .length → subword (p .length) (g .block) i q ≡ subword (p .length) c i q
 
 pub record Due (p : Profile) (c y : Series) (r k : ℕ) (g : Progress) (i : ℕ) : Type 0 where
@@ -103,9 +105,6 @@ module _ (p : Profile) (ok : Valid p) (c y : Series) (u : Unmistaken p c y) wher
           })
 
       -- not more
-      weight-is : weight n (entry (word n (error i))) ≡ differences p y c i
-      weight-is = weight-cong n _ _ (entry-word n (error i)) ∙ sym (differences-weight p y c i)
-
       within-settles : differences p y c i ≤ capability p r → Next
       within-settles within =
           let x : Explains (first-root p) (capability p r) n (g .row i) (error i) =
@@ -116,7 +115,7 @@ module _ (p : Profile) (ok : Valid p) (c y : Series) (u : Unmistaken p c y) wher
             stage = r;
             passed = omega arith;
             least = record { within = within; over = d .over };
-            line-is = ap (line-of r) weight-is;
+            line-is = line-by-cong n r _ _ (entry-word n (error i)) ∙ line-by-differs p r y c i;
             same = λ q l.
                 stage-subword p r g i h (some (word n (error i))) f q l
                 ∙ ap₂ _⊕_ (d .same q l) (entry-word n (error i) q l ∙ subword-⊞ n y c i q)

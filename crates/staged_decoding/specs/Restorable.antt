@@ -18,6 +18,7 @@ use Rattle.profile.specs.declared.Profile.{Profile}
 use Rattle.profile.specs.Definition.{capability}
 use Rattle.code.specs.Definition.{syndrome-of, subword, Codeword}
 use Rattle.staged_decoding.specs.Definition.{count, total, line-of, settle-at, Report, differences}
+use Rattle.staged_decoding.specs.Definition.{bit-differences}
 
 abbrev pub beyond? : Profile → Series → Series → ℕ → ℕ → Bool
 beyond? p c y r i = ltb (capability p r) (differences p y c i)
@@ -49,6 +50,8 @@ pub record Least (p : Profile) (c y : Series) (i r : ℕ) : Type 0 where
   pub over : (q : ℕ) → q < r → capability p q < differences p y c i
 
 pub record Restored (p : Profile) (c y : Series) (x : Report) : Type 0 where
-  pub line : (i : ℕ) → i < p .subwords → (r : ℕ) × Least p c y i r × (x .line i ≡ line-of r (differences p y c i))
+  pub line : (i : ℕ) → i < p .subwords
+      → (r : ℕ) × Least p c y i r × (x .line i ≡ line-of r (differences p y c i) (bit-differences p y c i))
   pub changed : x .changed ≡ total (p .subwords) (differences p y c)
+  pub bits : x .bits ≡ total (p .subwords) (bit-differences p y c)
   pub last : (x .last ≤ p .nested) × Reached p c y (x .last) × (beyond p c y (x .last) ≡ 0)

@@ -21,10 +21,10 @@ use Rattle.profile.specs.Definition.{capability, block-size}
 use Rattle.profile.specs.Valid.{Valid, capability-mono}
 use Rattle.code.specs.Definition.{Codeword}
 use Rattle.code.specs.Block.{Agree, block-agree, codeword-cong}
-use Rattle.staged_decoding.specs.Definition.{Line, clean, line-of, count-of, line-at, Report, report}
-use Rattle.staged_decoding.specs.Definition.{accepted, foreign, decode, differences}
+use Rattle.staged_decoding.specs.Definition.{count-of, Line, line-of, clean-line, line-at, Report, report}
+use Rattle.staged_decoding.specs.Definition.{accepted, foreign, decode, differences, bit-differences}
 use Rattle.staged_decoding.specs.Count.{none-count, total-cong}
-use Rattle.staged_decoding.specs.Stage.{line-of-is}
+use Rattle.staged_decoding.specs.Stage.{verdict-at-is}
 use Rattle.staged_decoding.specs.Course.{after-stage, Over, Accepts, Course, accepting, failing, rejecting}
 use Rattle.staged_decoding.specs.Course.{course, accepted-course, foreign-course}
 use Rattle.staged_decoding.specs.Sound.{line-there}
@@ -48,15 +48,18 @@ module _ (p : Profile) (ok : Valid p) (c y : Series) (u : Unmistaken p c y) wher
     agrees i z h q l = done i h .2 .same q l
 
     line-is : (i : ℕ) (h : i < p .subwords)
-        → line-at (after-stage p y s) i ≡ line-of (done i h .2 .stage) (differences p y c i)
-    line-is i h = ap (λ o. Option·getD o clean) (done i h .1) ∙ done i h .2 .line-is
+        → line-at (after-stage p y s) i
+        ≡ line-of (done i h .2 .stage) (differences p y c i) (bit-differences p y c i)
+    line-is i h = ap (λ o. Option·getD o clean-line) (done i h .1) ∙ done i h .2 .line-is
 
     restored : Restored p c y (report p s (after-stage p y s))
     unfolding report
     restored = record {
       line = λ i h. (done i h .2 .stage, done i h .2 .least, line-is i h);
       changed = total-cong (p .subwords) _ _
-          (λ i h. ap count-of (line-is i h) ∙ line-of-is (done i h .2 .stage) (differences p y c i) .0);
+          (λ i h. ap (λ (l : Line). count-of (l .verdict)) (line-is i h)
+          ∙ verdict-at-is (done i h .2 .stage) (differences p y c i) .0);
+      bits = total-cong (p .subwords) _ _ (λ i h. ap (λ (l : Line). l .bits) (line-is i h));
       last = (over .low, reached, sym (unsettled-beyond p ok c y u s (over .low) reached) ∙ over .none-left);
     }
 

@@ -6,36 +6,36 @@
 --   Sound p y r g         so for every subword
 --
 -- Proved: it holds before and after each stage (sound-before, sound-after); where no subword is left every one has its
--- line (line-there).
+-- line (line-there), which tells how it was settled (settled-line).
 use Prim.Native.Nat.{ℕ, zero, suc, _≤_, _<_}
 use mathlib.Core.Path.{_≡_, refl, sym, ap, _∙_}
 use mathlib.Core.Bool.{false, true≢false}
 use mathlib.Core.List.{List}
-use mathlib.Core.Option.{Option, none, some}
+use mathlib.Core.Option.{Option, none, some, Option·getD}
 use native.Mathlib.Omega.{arith}
 use Rattle.field.specs.Field.{F, _⊕_, ⊕-self-left}
 use Rattle.series.specs.Series.{Series, _⊞_}
-use Rattle.series.specs.Word.{entry, weight, weight-cong}
+use Rattle.series.specs.Word.{entry}
 use Rattle.profile.specs.declared.Profile.{Profile}
 use Rattle.profile.specs.Definition.{capability, first-root}
 use Rattle.code.specs.Definition.{subword}
 use Rattle.settling.specs.Definition.{Explains}
 use Rattle.settling.specs.Settle.{explains-cong}
-use Rattle.staged_decoding.specs.Definition.{Line, line-of, Progress, start, unsettled-line, open?}
-use Rattle.staged_decoding.specs.Definition.{unsettled, found, stage, extend}
+use Rattle.staged_decoding.specs.Definition.{Line, line-by, clean-line, Progress, start, unsettled-line}
+use Rattle.staged_decoding.specs.Definition.{open?, unsettled, found, stage, extend, line-at}
 use Rattle.staged_decoding.specs.Count.{count-none}
 use Rattle.staged_decoding.specs.Stage.{found-settled, found-some, stage-row}
 use Rattle.staged_decoding.specs.Stage.{stage-line, stage-subword, stage-stays}
 use Rattle.staged_decoding.specs.Round.{extend-settled}
 use Rattle.staged_decoding.specs.Course.{before-stage, after-stage}
-use Rattle.staged_decoding.specs.Differences.{subword-⊞}
+use Rattle.staged_decoding.specs.Differences.{subword-⊞, line-by-cong}
 
 pub record Settled (p : Profile) (y : Series) (r : ℕ) (g : Progress) (i : ℕ) (l : Line) : Type 0 where
   pub stage : ℕ
   pub passed : stage < r
   pub explained : Explains (first-root p) (capability p stage) (p .length) (g .row i)
       (subword (p .length) (y ⊞ g .block) i)
-  pub line-is : l ≡ line-of stage (weight (p .length) (subword (p .length) (y ⊞ g .block) i))
+  pub line-is : l ≡ line-by (p .length) stage (subword (p .length) (y ⊞ g .block) i)
 
 abbrev pub Told : Profile → Series → ℕ → Progress → ℕ → Option Line → Type 0
 Told p y r g i none = (q : ℕ) → q < p .length → subword (p .length) (g .block) i q ≡ subword (p .length) y i q
@@ -56,7 +56,7 @@ module _ (p : Profile) (y : Series) where
     stage = x .stage;
     passed = omega (arith, x .passed);
     explained = rw rows (explains-cong (first-root p) (capability p (x .stage)) n (g .row i) _ _ sums (x .explained));
-    line-is = x .line-is ∙ ap (line-of (x .stage)) (weight-cong n _ _ sums);
+    line-is = x .line-is ∙ line-by-cong n (x .stage) _ _ sums;
   }
     where
       sums : (q : ℕ) → q < n → subword n (y ⊞ g .block) i q ≡ subword n (y ⊞ h .block) i q
@@ -75,14 +75,14 @@ module _ (p : Profile) (y : Series) where
 
     -- w is found for a subword with its received symbols
     settles : (w : List F) → found p r g i ≡ some w → ((q : ℕ) → q < n → subword n (g .block) i q ≡ subword n y i q)
-        → Settled p y (suc r) (stage p r g) i (line-of r (weight n (entry w)))
+        → Settled p y (suc r) (stage p r g) i (line-by n r (entry w))
     settles w e same = record {
       stage = r;
       passed = omega arith;
       explained =
           rw row-is (explains-cong (first-root p) (capability p r) n (g .row i) (entry w) _ sums
           (found-some p r g i w e .explains));
-      line-is = ap (line-of r) (weight-cong n (entry w) _ sums);
+      line-is = line-by-cong n r (entry w) _ sums;
     }
       where
         sums : (q : ℕ) → q < n → entry w q ≡ subword n (y ⊞ stage p r g .block) i q
@@ -137,3 +137,9 @@ line-there p g e i h = go (g .line i) refl (count-none (p .subwords) (open? g) e
     go : (o : Option Line) → g .line i ≡ o → open? g i ≡ false → (l : Line) × (g .line i ≡ some l)
     go none f z = absurd (true≢false (sym (ap unsettled-line f) ∙ z))
     go (some l) f z = (l, f)
+
+pub settled-line : (p : Profile) (y : Series) (r : ℕ) → unsettled p (after-stage p y r) ≡ 0 → (i : ℕ) → i < p .subwords
+    → Settled p y (suc r) (after-stage p y r) i (line-at (after-stage p y r) i)
+settled-line p y r e i h =
+    let (l, f) = line-there p (after-stage p y r) e i h in
+    rw (ap (λ o. Option·getD o clean-line) f) (rw f at (sound-after p y r i h))

@@ -3,7 +3,7 @@
 --   pattern w            the pattern found, as a series; zeros if none was
 --   line-after r n o w   the line of a subword after stage r, o being its line before and w the pattern found
 --
--- Proved: the count and stage of a line (line-of-is); a pattern added to a subword changes no other (add-same,
+-- Proved: the count and stage of a verdict (verdict-at-is); a pattern added to a subword changes no other (add-same,
 -- add-other) and nothing past the block (add-past); what is found explains the row of an unsettled subword
 -- (found-some), and a settled one stays (found-settled); a step is to do nothing or to take the pattern (step-none,
 -- step-some); a stage is that for every subword (stage-line, stage-subword, stage-stays), and leaves the rows
@@ -24,15 +24,16 @@ use Rattle.field.specs.Field.{F, 𝟎, _⊕_, ⊕-zero}
 use Rattle.series.specs.Series.{Series, O, O-at, _⊠_, ⊞-at}
 use Rattle.series.specs.Shift.{zpow, zpow-at, zpow-low}
 use Rattle.series.specs.Degree.{below}
-use Rattle.series.specs.Word.{entry, entry-past, weight}
+use Rattle.series.specs.Word.{entry, entry-past}
 use Rattle.profile.specs.declared.Profile.{Profile}
 use Rattle.profile.specs.Definition.{capability, first-root, block-size}
 use Rattle.code.specs.Definition.{subword}
 use Rattle.code.specs.Block.{subword-at}
 use Rattle.settling.specs.Definition.{Explains}
 use Rattle.settling.specs.Settle.{settle-some}
-use Rattle.staged_decoding.specs.Definition.{put, each, Line, corrected, line-of, count-of, stage-of, add}
-use Rattle.staged_decoding.specs.Definition.{Progress, unsettled-line, settle-at, found, correct, step, stage}
+use Rattle.staged_decoding.specs.Definition.{put, each, corrected, verdict-at, count-of, stage-of, Line, line-by}
+use Rattle.staged_decoding.specs.Definition.{add, Progress, unsettled-line, settle-at, found, correct, step}
+use Rattle.staged_decoding.specs.Definition.{stage}
 
 -- ---- progress, part by part
 
@@ -48,22 +49,22 @@ pub each-more : {A : Type 0} (k : ℕ) (f : ℕ → A → A) (a : A) → each (k
 unfolding each
 each-more k f a = rw add-one
 
--- ---- lines
+-- ---- verdicts
 
-pub line-of-corrected : (r k : ℕ) → r ≢ 0 → line-of r k ≡ corrected k r
-line-of-corrected r k h = rw (ne-eqb r 0 h)
+pub verdict-later : (r k : ℕ) → r ≢ 0 → verdict-at r k ≡ corrected k r
+verdict-later r k h = rw (ne-eqb r 0 h)
 
-pub line-of-first : (k : ℕ) → k ≢ 0 → line-of 0 k ≡ corrected k 0
-line-of-first k h = rw (ne-eqb k 0 h)
+pub verdict-first : (k : ℕ) → k ≢ 0 → verdict-at 0 k ≡ corrected k 0
+verdict-first k h = rw (ne-eqb k 0 h)
 
--- a line's count and stage are those it was made of
-pub line-of-is : (r k : ℕ) → (count-of (line-of r k) ≡ k) × (stage-of (line-of r k) ≡ r)
-line-of-is r k = go (ℕ-discrete r 0) (ℕ-discrete k 0)
+-- a verdict's count and stage are those it was made of
+pub verdict-at-is : (r k : ℕ) → (count-of (verdict-at r k) ≡ k) × (stage-of (verdict-at r k) ≡ r)
+verdict-at-is r k = go (ℕ-discrete r 0) (ℕ-discrete k 0)
   where
-    go : Dec (r ≡ 0) → Dec (k ≡ 0) → (count-of (line-of r k) ≡ k) × (stage-of (line-of r k) ≡ r)
+    go : Dec (r ≡ 0) → Dec (k ≡ 0) → (count-of (verdict-at r k) ≡ k) × (stage-of (verdict-at r k) ≡ r)
     go (yes e) (yes f) = rw (e, f) (refl, refl)
-    go (yes e) (no f) = rw (e, line-of-first k f) (refl, refl)
-    go (no e) f = rw (line-of-corrected r k e) (refl, refl)
+    go (yes e) (no f) = rw (e, verdict-first k f) (refl, refl)
+    go (no e) f = rw (verdict-later r k e) (refl, refl)
 
 -- ---- one value of a function
 
@@ -165,7 +166,7 @@ pattern (some w) = entry w
 
 abbrev pub line-after : ℕ → ℕ → Option Line → Option (List F) → Option Line
 line-after r n o none = o
-line-after r n o (some w) = some (line-of r (weight n (entry w)))
+line-after r n o (some w) = some (line-by n r (entry w))
 
 -- ---- the subwords below k
 

@@ -1,16 +1,15 @@
 -- Lines in an array, and the progress that they show.
 --
 -- Proved: what stands at a place (has, has-same, has-other); eight lines at their start (started);
--- what lines say and show after a store (says-same, says-other, shown-set); the changed symbols are counted line by
--- line (changed-none, changed-more).
+-- what lines say and show after a store (says-same, says-other, shown-set); what they say is added up line by line
+-- (sum-none, sum-more).
 use Prim.Native.Nat.{ℕ, zero, suc, _+_, _≤_, _<_}
-use mathlib.Core.Path.{_≡_, refl, sym, ap, _∙_, fun-ext, subst}
+use mathlib.Core.Path.{_≡_, refl, sym, ap, ap₂, _∙_, fun-ext, subst}
 use mathlib.Core.Logic.{_≢_}
 use mathlib.Core.Bool.{Bool, true, cond}
 use mathlib.Core.List.{List, [], _∷_, map}
 use mathlib.Core.Option.{none, some}
 use native.Mathlib.Decide.{decLt, ℕ-discrete}
-use native.Mathlib.Numerals.{add-one}
 use native.Mathlib.Omega.{arith}
 use lib.ListN.{length, getD, set, replicate, length-set, length-map, length-replicate, getD-replicate}
 use lib.ListN.{List·getD-map, List·getD-eq-default}
@@ -20,11 +19,12 @@ use Rattle.solver.specs.declared.Solver.{Solver}
 use Rattle.solver.specs.Solver.{Fresh}
 use Rattle.solver.specs.ContinuationDefinition.{Ended, ended-start}
 use Rattle.staged_decoding.specs.Definition as staged
-use Rattle.staged_decoding.specs.Definition.{put, total, count-of}
+use Rattle.staged_decoding.specs.Definition.{put, total}
+use Rattle.staged_decoding.specs.Count.{total-none, total-more}
 use Rattle.staged_decoding.specs.Stage.{put-same, put-other}
 use Rattle.stages.specs.declared.report.Verdict.the-variants.{Clean}
 use Rattle.stages.specs.declared.report.Line.{Line}
-use Rattle.stages.specs.Report.{verdict-of, says, Has, Started}
+use Rattle.stages.specs.Report.{said, says, Has, Started}
 use Rattle.stages.specs.View.{shown}
 
 -- ---- places of a list
@@ -47,22 +47,20 @@ has-other lines i k l x n (h, is) =
 
 -- ---- what lines say
 
-pub says-at : (lines : List Line) (i : ℕ) (l : Line) → Has lines i l → says lines i ≡ verdict-of (l .verdict)
+pub says-at : (lines : List Line) (i : ℕ) (l : Line) → Has lines i l → says lines i ≡ said l
 unfolding says
 says-at lines i l (h, is) =
-    any-default (map (λ l. verdict-of (l .verdict)) lines) i staged.clean (verdict-of (l .verdict))
-    (omega (arith, length-map lines (λ l. verdict-of (l .verdict))))
-    ∙ List·getD-map (λ l. verdict-of (l .verdict)) lines i l
-    ∙ ap (λ (l : Line). verdict-of (l .verdict)) (is l)
+    any-default (map said lines) i staged.clean-line (said l) (omega (arith, length-map lines said))
+    ∙ List·getD-map said lines i l
+    ∙ ap said (is l)
 
-says-past : (lines : List Line) (i : ℕ) → length lines ≤ i → says lines i ≡ staged.clean
+says-past : (lines : List Line) (i : ℕ) → length lines ≤ i → says lines i ≡ staged.clean-line
 unfolding says
 says-past lines i h =
-    List·getD-eq-default (map (λ l. verdict-of (l .verdict)) lines) staged.clean
-    (omega (arith, length-map lines (λ l. verdict-of (l .verdict))))
+    List·getD-eq-default (map said lines) staged.clean-line (omega (arith, length-map lines said))
 
 pub started : (f : Form) (s : Solver) → s .form ≡ f → Fresh s
-    → Started f (replicate 8 (record { verdict = Clean; solver = s }))
+    → Started f (replicate 8 (record { verdict = Clean; bits = 0; solver = s }))
 started f s e h = record {
   long = length-replicate 8 l;
   solvers = λ i x (m, is). subst (λ (x : Line). Ended f [] (x .solver))
@@ -71,16 +69,16 @@ started f s e h = record {
 }
   where
     l : Line
-    l = record { verdict = Clean; solver = s }
+    l = record { verdict = Clean; bits = 0; solver = s }
 
-    all : (i : ℕ) → Dec (i < 8) → says (replicate 8 l) i ≡ staged.clean
+    all : (i : ℕ) → Dec (i < 8) → says (replicate 8 l) i ≡ staged.clean-line
     all i (yes h) = says-at (replicate 8 l) i l (omega (arith, length-replicate 8 l), λ d. getD-replicate 8 i l d h)
     all i (no h) = says-past (replicate 8 l) i (omega (arith, length-replicate 8 l))
 
 -- ---- after a store
 
 module _ (lines : List Line) (k : ℕ) (l : Line) (h : k < length lines) where
-  pub says-same : says (set lines k l) k ≡ verdict-of (l .verdict)
+  pub says-same : says (set lines k l) k ≡ said l
   says-same = says-at (set lines k l) k l (omega (arith, length-set lines k l), λ d. getD-set-same lines k l d h)
 
   pub says-other : (i : ℕ) → i ≢ k → says (set lines k l) i ≡ says lines i
@@ -96,13 +94,13 @@ module _ (lines : List Line) (k : ℕ) (l : Line) (h : k < length lines) where
 
   module _ (pending : List Bool) (x : Bool) (g : k < length pending) where
     pub shown-set : shown (set pending k x) (set lines k l)
-        ≡ put k (cond x none (some (verdict-of (l .verdict)))) (shown pending lines)
+        ≡ put k (cond x none (some (said l))) (shown pending lines)
     unfolding shown
     shown-set = fun-ext (λ i. go i (ℕ-discrete i k))
       where
         go : (i : ℕ) → Dec (i ≡ k)
             → cond (getD (set pending k x) i true) none (some (says (set lines k l) i))
-            ≡ put k (cond x none (some (verdict-of (l .verdict)))) (shown pending lines) i
+            ≡ put k (cond x none (some (said l))) (shown pending lines) i
         go i (yes e) =
             rw (e, getD-set-same pending k x true g, says-same) (sym (put-same k _ (shown pending lines)))
         go i (no n) =
@@ -115,14 +113,14 @@ put-stay k x f e = fun-ext (λ i. go i (ℕ-discrete i k))
     go i (yes q) = rw q (put-same k x f ∙ sym e)
     go i (no n) = put-other k x f i n
 
--- ---- counts
+-- ---- sums
 
-pub changed-none : (lines : List Line) → 0 ≡ total 0 (λ i. count-of (says lines i))
-unfolding total
-changed-none lines = refl
+-- f is what is added up
+module _ (f : staged.Line → ℕ) (lines : List Line) where
+  pub sum-none : 0 ≡ total 0 (λ i. f (says lines i))
+  sum-none = sym (total-none _)
 
-pub changed-more : (lines : List Line) (sum i n : ℕ) (d : Line) → i < length lines
-    → sum ≡ total i (λ i. count-of (says lines i))
-    → n ≡ count-of (verdict-of (getD lines i d .verdict)) → sum + n ≡ total (i + 1) (λ i. count-of (says lines i))
-unfolding total
-changed-more lines sum i n d h e q = rw (add-one i, e, q, says-at lines i (getD lines i d) (has lines i d h))
+  pub sum-more : (sum i n : ℕ) (d : Line) → i < length lines → sum ≡ total i (λ i. f (says lines i))
+      → n ≡ f (said (getD lines i d)) → sum + n ≡ total (i + 1) (λ i. f (says lines i))
+  sum-more sum i n d h e q =
+      ap₂ _+_ e (q ∙ ap f (sym (says-at lines i (getD lines i d) (has lines i d h)))) ∙ sym (total-more i _)

@@ -32,7 +32,7 @@ use Rattle.staged_decoding.specs.Stage.{found-settled, step-none, step-some}
 use Rattle.stages.specs.AttemptDefinition.{Ready}
 use Rattle.stages.specs.declared.report.Line.{Line}
 use Rattle.stages.specs.declared.subword.StagedSubword.{StagedSubword}
-use Rattle.stages.specs.Report.{verdict-of, says, Has}
+use Rattle.stages.specs.Report.{said, says, Has}
 use Rattle.stages.specs.SubwordDefinition.{Took, Stayed}
 use Rattle.stages.specs.declared.Staged.{Staged}
 use Rattle.stages.specs.View.{shown, view, so-far, Standing, Before, Came}
@@ -87,8 +87,8 @@ module _ (p : Profile) (f : Form) (r : ℕ) (t : List (List Gf)) where
   module _ (k : ℕ) (b c : List ℕ) (pending : List Bool) (lines : List Line) (low : k < p .subwords)
       (flags : k < length pending) (long : k < length lines) where
     kept-next : (x : Bool) (l : Line) → Standing p f (next r k) (view b pending lines t) lines
-        → verdict-of (l .verdict) ≡ Option·getD (cond x none (some (verdict-of (l .verdict)))) staged.clean
-        → Ended f (so-far p k (suc r) (table t k) (cond x none (some (verdict-of (l .verdict))))) (l .solver)
+        → said l ≡ Option·getD (cond x none (some (said l))) staged.clean-line
+        → Ended f (so-far p k (suc r) (table t k) (cond x none (some (said l)))) (l .solver)
         → Standing p f (next r (k + 1)) (view c (set pending k x) (set lines k l) t) (set lines k l)
     unfolding view
     kept-next x l h told e = record {
@@ -102,7 +102,7 @@ module _ (p : Profile) (f : Form) (r : ℕ) (t : List (List Gf)) where
             ∙ put-other k _ (shown pending lines) i n
 
         says-is : (i : ℕ) → Dec (i ≡ k)
-            → says (set lines k l) i ≡ Option·getD (shown (set pending k x) (set lines k l) i) staged.clean
+            → says (set lines k l) i ≡ Option·getD (shown (set pending k x) (set lines k l) i) staged.clean-line
         says-is i (yes q) =
             rw (q, shown-set lines k l long pending x flags, put-same k _ (shown pending lines))
             (says-same lines k l long ∙ told)
@@ -138,9 +138,9 @@ module _ (p : Profile) (f : Form) (r : ℕ) (t : List (List Gf)) where
       Next = Mid p f r g (k + 1) c (set pending k (q .pending)) (set lines k (q .line)) t
 
       go-on : view c (set pending k (q .pending)) (set lines k (q .line)) t ≡ step p r k G
-          → verdict-of (q .line .verdict)
-          ≡ Option·getD (cond (q .pending) none (some (verdict-of (q .line .verdict)))) staged.clean
-          → Ended f (so-far p k (suc r) (table t k) (cond (q .pending) none (some (verdict-of (q .line .verdict)))))
+          → said (q .line)
+          ≡ Option·getD (cond (q .pending) none (some (said (q .line)))) staged.clean-line
+          → Ended f (so-far p k (suc r) (table t k) (cond (q .pending) none (some (said (q .line)))))
           (q .line .solver) → Next
       go-on is told ended = record {
         is = is ∙ ap (step p r k) (mid .is) ∙ sym (each-more k (step p r) g);
@@ -163,7 +163,7 @@ module _ (p : Profile) (f : Form) (r : ℕ) (t : List (List Gf)) where
           line-was : shown pending lines k ≡ some (says lines k)
           line-was = shown-no pending lines k d flags h
 
-          line-is : shown pending lines k ≡ cond (q .pending) none (some (verdict-of (q .line .verdict)))
+          line-is : shown pending lines k ≡ cond (q .pending) none (some (said (q .line)))
           line-is = line-was ∙ rw (settled, same) (ap some (says-at lines k (getD lines k e) (has lines k e long)))
 
       -- it was not, and w is what settles it now

@@ -17,11 +17,11 @@ use Rattle.series.specs.Word.{entry, weight}
 use Rattle.profile.specs.declared.Profile.{Profile}
 use Rattle.solver.specs.declared.Form.{Form}
 use Rattle.solver.specs.ContinuationDefinition.{Ended}
-use Rattle.staged_decoding.specs.Definition.{clean, add, line-of, line-rounds, rounds-of}
+use Rattle.staged_decoding.specs.Definition.{line-by, clean-line, add, line-rounds, rounds-of}
 use Rattle.stages.specs.declared.attempt.Attempted.{Attempted}
 use Rattle.stages.specs.declared.report.Line.{Line}
 use Rattle.stages.specs.declared.subword.StagedSubword.{StagedSubword}
-use Rattle.stages.specs.Report.{verdict-of}
+use Rattle.stages.specs.Report.{said}
 
 -- what an attempt has brought: with no change at stage 0 there would have been no attempt
 pub record Offered (p : Profile) (f : Form) (r : ℕ) (S : Series) (a : Attempted) : Type 0 where
@@ -35,9 +35,9 @@ Stayed line b c q = (q .pending ≡ false) × (q .line ≡ line) × (c ≡ b)
 -- b and c are the block before and after
 abbrev pub Took : Profile → Form → (r i : ℕ) → Series → Option (List F) → (b c : Series) → StagedSubword → Type 0
 Took p f r i S none b c q =
-    (q .pending ≡ true) × (c ≡ b) × (verdict-of (q .line .verdict) ≡ clean)
+    (q .pending ≡ true) × (c ≡ b) × (said (q .line) ≡ clean-line)
     × Ended f (rounds-of p S r) (q .line .solver)
 Took p f r i S (some w) b c q =
     (q .pending ≡ false) × (c ≡ add (p .length) i (entry w) b)
-    × (verdict-of (q .line .verdict) ≡ line-of r (weight (p .length) (entry w)))
-    × Ended f (line-rounds p S (line-of r (weight (p .length) (entry w)))) (q .line .solver)
+    × (said (q .line) ≡ line-by (p .length) r (entry w))
+    × Ended f (line-rounds p S (line-by (p .length) r (entry w) .verdict)) (q .line .solver)

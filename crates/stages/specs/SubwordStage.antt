@@ -20,7 +20,7 @@ use Rattle.series.specs.Shift.{zpow, cut}
 use Rattle.series.specs.Degree.{below, below-O, below-cut-eq}
 use Rattle.series.specs.Array.{values}
 use Rattle.series.specs.Value.{value-zero}
-use Rattle.series.specs.Word.{entry, word, weight, word-cut, weight-word, weight-O, zero-weight}
+use Rattle.series.specs.Word.{entry, word, weight, entry-word, word-cut, weight-word, weight-O, zero-weight}
 use Rattle.series.specs.Decide.{holds}
 use Rattle.polynomial.specs.Polynomial.{row}
 use Rattle.polynomial.specs.SyndromesZero.{zero?, zero-not}
@@ -34,8 +34,9 @@ use Rattle.settling.specs.Definition.{Explains, settle}
 use Rattle.settling.specs.Settle.{settle-zero}
 use Rattle.settle.specs.Answer.{answer, Sound}
 use Rattle.solver.specs.ContinuationDefinition.{Ended}
-use Rattle.staged_decoding.specs.Definition.{add, line-of, line-rounds, rounds-of}
-use Rattle.staged_decoding.specs.Stage.{line-of-corrected, line-of-first}
+use Rattle.staged_decoding.specs.Definition.{verdict-at, line-of, bit-weight, add, line-rounds, rounds-of}
+use Rattle.staged_decoding.specs.Stage.{verdict-later, verdict-first}
+use Rattle.staged_decoding.specs.Differences.{bit-weight-cong, bit-weight-none}
 use Rattle.stages.specs.declared.attempt.Attempted.{Attempted}
 use Rattle.stages.specs.AttemptDefinition.{Ready}
 use Rattle.stages.specs.declared.report.Verdict.{Verdict}
@@ -58,12 +59,12 @@ entry-none n = word-cut n O ∙ below-cut-eq n O (below-O n)
 
 -- ---- verdicts
 
-pub clean-is : (r k : ℕ) → r ≡ 0 → k ≡ 0 → verdict-of Clean ≡ line-of r k
+pub clean-is : (r k : ℕ) → r ≡ 0 → k ≡ 0 → verdict-of Clean ≡ verdict-at r k
 clean-is r k e f = rw (e, f)
 
-pub corrected-is : (r k : ℕ) → ¬ ((r ≡ 0) × (k ≡ 0)) → verdict-of (Corrected k r) ≡ line-of r k
+pub corrected-is : (r k : ℕ) → ¬ ((r ≡ 0) × (k ≡ 0)) → verdict-of (Corrected k r) ≡ verdict-at r k
 corrected-is r k h =
-    by-cases (ℕ-discrete r 0) (λ e. rw e (sym (line-of-first k (λ f. h (e, f))))) (λ d. sym (line-of-corrected r k d))
+    by-cases (ℕ-discrete r 0) (λ e. rw e (sym (verdict-first k (λ f. h (e, f))))) (λ d. sym (verdict-later r k d))
 
 -- ---- what becomes of a subword
 
@@ -71,43 +72,49 @@ module _ (p : Profile) (f : Form) (r i : ℕ) (S : Series) (b : Series) where
   module _ (a : Attempted) (o : Offered p f r S a) where
     pub took-none : a .settled .found ≡ false
         → Took p f r i S (answer (p .length) (a .settled)) b b
-        (record { pending = true; line = record { verdict = Clean; solver = a .solver } })
+        (record { pending = true; line = record { verdict = Clean; bits = 0; solver = a .solver } })
     unfolding answer
     took-none missing = rw missing (refl, refl, refl, o .solver)
 
-    pub took-some : (c : Series) (v : Verdict) → a .settled .found ≡ true
+    pub took-some : (c : Series) (v : Verdict) (bits : ℕ) → a .settled .found ≡ true
         → c ≡ add (p .length) i (cut (p .length) (values (a .settled .pattern))) b
-        → verdict-of v ≡ line-of r (a .settled .count)
+        → verdict-of v ≡ verdict-at r (a .settled .count)
+        → bits ≡ bit-weight (p .length) (values (a .settled .pattern))
         → Took p f r i S (answer (p .length) (a .settled)) b c
-        (record { pending = false; line = record { verdict = v; solver = a .solver } })
+        (record { pending = false; line = record { verdict = v; bits = bits; solver = a .solver } })
     unfolding answer
-    took-some c v hit is says =
+    took-some c v bits hit is says counted =
         let n = p .length in
         let g = values (a .settled .pattern) in
         let k : a .settled .count ≡ weight n (entry (word n g)) = o .count ∙ sym (weight-word n g) in
+        let same-bits : bit-weight n g ≡ bit-weight n (entry (word n g)) =
+        sym (bit-weight-cong n _ g (entry-word n g)) in
         rw hit (
           refl,
           is ∙ ap (λ e. add n i e b) (sym (word-cut n g)),
-          says ∙ ap (line-of r) k,
-          subst (λ k. Ended f (line-rounds p S (line-of r k)) (a .solver)) k
-              (subst (λ l. Ended f (line-rounds p S l) (a .solver))
+          λ j. record { verdict = (says ∙ ap (verdict-at r) k) j; bits = (counted ∙ same-bits) j },
+          subst (λ k. Ended f (line-rounds p S (verdict-at r k)) (a .solver)) k
+              (subst (λ v. Ended f (line-rounds p S v) (a .solver))
               (corrected-is r _ (λ (e, z). o .some hit e z)) (o .solver)),
         )
 
   pub took-clean : (t : ℕ) (s : Solver) → p .length ≤ 255 → r ≡ 0 → S ≡ O → Ready p f r S s
       → Took p f r i S (settle (first-root p) t (p .length) S) b b
-      (record { pending = false; line = record { verdict = Clean; solver = s } })
+      (record { pending = false; line = record { verdict = Clean; bits = 0; solver = s } })
   took-clean t s hn e z h =
       let n = p .length in
       rw (z, settle-zero (first-root p) t n hn) (
         refl,
         add-none n i b ∙ ap (λ e. add n i e b) (sym (entry-none n)),
-        clean-is r _ e none-changed,
-        subst (λ l. Ended f (line-rounds p O l) s) (clean-is r _ e none-changed) (rw e at (h .ended)),
+        λ j. record { verdict = clean-is r _ e none-changed j; bits = sym no-bits j },
+        subst (λ v. Ended f (line-rounds p O v) s) (clean-is r _ e none-changed) (rw e at (h .ended)),
       )
     where
       none-changed : weight (p .length) (entry (word (p .length) O)) ≡ 0
       none-changed = weight-word (p .length) O ∙ weight-O (p .length)
+
+      no-bits : bit-weight (p .length) (entry (word (p .length) O)) ≡ 0
+      no-bits = bit-weight-none (p .length) _ (λ q l. entry-word (p .length) O q l ∙ O-at q)
 
 -- a pattern without a change explains a row of zeros only
 pub no-change : (h t n : ℕ) (S e : Series) → below (2 * t) S → Explains h t n S e → weight n e ≡ 0 → S ≡ O

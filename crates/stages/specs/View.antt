@@ -54,7 +54,7 @@ waiting p pending = count (p .subwords) (flag pending)
 
 abbrev pub so-far : Profile → (i s : ℕ) → Series → Option staged.Line → List (List F)
 so-far p i s S none = cond (ltb i (p .subwords)) (earlier p S s) []
-so-far p i s S (some l) = line-rounds p S l
+so-far p i s S (some l) = line-rounds p S (l .verdict)
 
 pub record Standing (p : Profile) (f : Form) (next : ℕ → ℕ) (g : Progress) (lines : List Line) : Type 0 where
   pub solvers : (i : ℕ) (l : Line) → Has lines i l → Ended f (so-far p i (next i) (g .row i) (g .line i)) (l .solver)

@@ -4,7 +4,8 @@
 --
 -- Proved: a round brings the rows that the definition says (extended); so it is after stage 0 (at-first), after a round
 -- and a stage more (at-next), and where no round follows decoding has ended (reached); where every subword is settled
--- then, each solver is at the end of its line's rounds (reached-settled, reached-solvers).
+-- then, each solver is at the end of its line's rounds (reached-settled, reached-solvers), and no line has more than
+-- 2,040 bits (reached-bits).
 use Prim.Native.Nat.{ℕ, zero, suc, _+_, _-_, _*_, _≤_, _<_}
 use mathlib.Core.Path.{_≡_, refl, sym, ap, _∙_, fun-ext, subst}
 use mathlib.Core.Logic.{_≢_, by-cases}
@@ -38,13 +39,14 @@ use Rattle.staged_decoding.specs.Count.{count-cong, count-none}
 use Rattle.staged_decoding.specs.Stage.{progress-equal}
 use Rattle.staged_decoding.specs.Round.{extend-open, extend-settled, extend-low, window-high}
 use Rattle.staged_decoding.specs.Rounds.{rounds-cong}
+use Rattle.staged_decoding.specs.Accepted.{settled-bits}
 use Rattle.staged_decoding.specs.Course.{stages-over, stages-stop, stages-on, settled-course}
 use Rattle.extend.specs.LagrangeDefinition.{flag}
 use Rattle.extend.specs.Definition.{Seen}
 use Rattle.stages.specs.declared.report.Line.{Line}
 use Rattle.stages.specs.declared.Staged.{Staged}
 use Rattle.stages.specs.declared.Ending.{Ending}
-use Rattle.stages.specs.Report.{says, Has, Started}
+use Rattle.stages.specs.Report.{says, Has, Started, Counted}
 use Rattle.stages.specs.View.{shown, view, waiting, so-far, Standing, Before, Came, Reached}
 use Rattle.stages.specs.Lines.{any-default}
 
@@ -101,7 +103,7 @@ so-far-cong : (p : Profile) (i r : ℕ) (S T : Series) (o : Option staged.Line)
     → (o ≡ none → rounds-of p S r ≡ rounds-of p T r)
     → ((x : staged.Line) → o ≡ some x → S ≡ T) → so-far p i (suc r) S o ≡ so-far p i (suc r) T o
 so-far-cong p i r S T none rounds row = ap (λ (l : List (List F)). cond (ltb i (p .subwords)) l []) (rounds refl)
-so-far-cong p i r S T (some x) rounds row = ap (λ (s : Series). line-rounds p s x) (row x refl)
+so-far-cong p i r S T (some x) rounds row = ap (λ (s : Series). line-rounds p s (x .verdict)) (row x refl)
 
 module _ (p : Profile) (ok : Valid p) (f : Form) (r : ℕ) (small : r < p .nested)
     (lines : List Line) (g : Progress) where
@@ -296,12 +298,17 @@ module _ (p : Profile) (f : Form) (y b : Series) (e : Ending) (r : Reached p f y
       ap (unsettled p) is ∙ over .none-left
 
   pub reached-solvers : (i : ℕ) (l : Line) → Has (e .lines) i l
-      → Ended f (line-rounds p (r .last .row i) (line-at (r .last) i)) (l .solver)
+      → Ended f (line-rounds p (r .last .row i) (line-at (r .last) i .verdict)) (l .solver)
   unfolding unsettled
   reached-solvers i l m = go (r .last .line i) refl (decLt i (p .subwords))
     where
       go : (o : Option staged.Line) → r .last .line i ≡ o → Dec (i < p .subwords)
-          → Ended f (line-rounds p (r .last .row i) (line-at (r .last) i)) (l .solver)
+          → Ended f (line-rounds p (r .last .row i) (line-at (r .last) i .verdict)) (l .solver)
       go (some x) q d = rw q (rw q at (r .kept .solvers i l m))
       go none q (yes d) = absurd (true≢false (rw q at (count-none (p .subwords) (open? (r .last)) none-left i d)))
       go none q (no d) = rw q (rw (q, le-ltb i (p .subwords) (omega arith)) at (r .kept .solvers i l m))
+
+  pub reached-bits : Valid p → Counted (p .subwords) (e .lines)
+  reached-bits ok i d =
+      let same = ap (λ (l : staged.Line). l .bits) (r .kept .says i) in
+      omega (arith, same, settled-bits p y (e .stage) (r .last) reached-settled i d, ok .length .1)

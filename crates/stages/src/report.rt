@@ -1,10 +1,10 @@
-// The report of a reading: a line for each subword, the number of changed symbols, the last stage entered: FORMAT 7.
-// What it says stands in specs/Report.antt.
+// The report of a reading: a line for each subword, the number of changed symbols and of changed bits, the last stage
+// entered: FORMAT 7. What it says stands in specs/Report.antt.
 ghost use Prim.Native.Nat.{_≤_};
 ghost use mathlib.Core.Path.{_≡_};
 ghost use Rattle.staged_decoding.specs.Definition.{total, count-of};
 ghost use Rattle.staged_decoding.specs.Clean.{untouched};
-ghost use Rattle.stages.specs.Report.{verdict-of, says, Started, Tells};
+ghost use Rattle.stages.specs.Report.{verdict-of, says, Started, Counted, Tells};
 use profile::SUBWORDS;
 use solver::Form;
 use solver::Solver;
@@ -15,17 +15,20 @@ pub enum Verdict {
     Corrected(u8, u8),
 }
 
-// The line of a subword, with the last state of its solver, which is at its start if the subword is clean.
+// The line of a subword: how many of its bits were changed, and the last state of its solver, which is at its start if
+// the subword is clean.
 pub struct Line {
     pub verdict: Verdict,
+    pub bits: u16,
     pub solver: Solver,
 }
 
-// The lines of the subwords, lines that are no subword's being clean; how many symbols were changed; the last
-// stage entered.
+// The lines of the subwords, lines that are no subword's being clean; how many symbols and how many bits were changed;
+// the last stage entered.
 pub struct Report {
     pub lines: [Line; SUBWORDS],
     pub changed: u16,
+    pub bits: u16,
     pub last: u8,
 }
 
@@ -41,18 +44,28 @@ fn changes(l: Line) -> u16
     }
 }
 
-// How many symbols were changed in m subwords.
-pub fn changed(lines: [Line; SUBWORDS], m: usize) -> u16
-    requires { ⌜ m ≤ 8 ⌝ }
-    ensures { λ n. ⌜ n ≡ total m (λ i. count-of (says lines i)) ⌝ }
+// The report of m subwords, all settled, from their lines. No line has more bits than a subword of 255 symbols.
+pub fn summed(lines: [Line; SUBWORDS], m: usize, last: u8) -> Report
+    requires { ⌜ (m ≤ 8) × Counted m lines ⌝ }
+    ensures kept { λ r. ⌜ (r .lines ≡ lines) × (r .last ≡ last) ⌝ }
+    ensures changed { λ r. ⌜ r .changed ≡ total m (λ i. count-of (says lines i .verdict)) ⌝ }
+    ensures bits { λ r. ⌜ r .bits ≡ total m (λ i. says lines i .bits) ⌝ }
 {
-    let mut sum: u16 = 0;
+    let mut changed: u16 = 0;
+    let mut bits: u16 = 0;
     let mut i: usize = 0;
     while i < m {
-        sum = sum + changes(lines[i]);
+        let l = lines[i];
+        changed = changed + changes(l);
+        bits = bits + l.bits;
         i = i + 1;
     }
-    sum
+    Report {
+        lines: lines,
+        changed: changed,
+        bits: bits,
+        last: last,
+    }
 }
 
 // Eight lines at their start.
@@ -62,6 +75,7 @@ pub fn start(form: Form) -> [Line; SUBWORDS]
     let s = Solver::start(form);
     let l = Line {
         verdict: Verdict::Clean,
+        bits: 0,
         solver: s,
     };
     [l; SUBWORDS]
@@ -75,6 +89,7 @@ pub fn empty(form: Form) -> Report
     Report {
         lines: lines,
         changed: 0,
+        bits: 0,
         last: 0,
     }
 }

@@ -3,6 +3,8 @@
 ghost use Prim.Native.Nat.{_≤_, _<_};
 ghost use mathlib.Core.Path.{_≡_};
 ghost use mathlib.Core.Bool.{true, false, _&&_};
+ghost use lib.Bits.{bitXor};
+ghost use lib.Count.{ones};
 ghost use lib.Dec.{eqb};
 ghost use Rattle.series.specs.Series.{Series};
 ghost use Rattle.series.specs.Shift.{cut};
@@ -12,7 +14,7 @@ ghost use Rattle.polynomial.specs.Polynomial.{row as Row};
 ghost use Rattle.polynomial.specs.SyndromesZero.{zero?};
 ghost use Rattle.block.specs.Parts.{Fits};
 ghost use Rattle.settle.specs.Answer.{answer};
-ghost use Rattle.staged_decoding.specs.Definition.{add, line-of, settle-at};
+ghost use Rattle.staged_decoding.specs.Definition.{verdict-at, bit-weight, add, settle-at};
 ghost use Rattle.stages.specs.AttemptDefinition.{Ready};
 ghost use Rattle.stages.specs.Report.{verdict-of};
 ghost use Rattle.stages.specs.SubwordDefinition.{Offered, Took, Stayed};
@@ -34,7 +36,7 @@ pub struct StagedSubword {
 
 // Settled at stage r by so many changes.
 fn verdict_of(r: u8, count: u8) -> Verdict
-    ensures { λ v. ⌜ verdict-of v ≡ line-of r count ⌝ }
+    ensures { λ v. ⌜ verdict-of v ≡ verdict-at r count ⌝ }
 {
     if r == 0 {
         if count == 0 {
@@ -44,20 +46,45 @@ fn verdict_of(r: u8, count: u8) -> Verdict
     Verdict::Corrected(count, r)
 }
 
-// The pattern is added to subword i.
-fn correct(p: Profile, i: usize, pattern: [Gf; POSITIONS], block: &mut [u8])
+// In how many bits a received symbol and what it is corrected to differ.
+fn wrong_bits(received: u8, corrected: u8) -> u16
+    ensures { λ b. ⌜ b ≡ ones (bitXor received corrected) ⌝ }
+    ensures small { λ b. ⌜ b ≤ 8 ⌝ }
+{
+    u8::count_ones(received ^ corrected) as u16
+}
+
+// A change is added to the symbol at k: how many bits that changes.
+fn change(k: usize, e: Gf, block: &mut [u8]) -> u16
+    requires { ⌜ k < length (now block) ⌝ }
+    ensures block { λ _. ⌜ bytes (now (block .exit)) ≡ bytes (now (block .entry)) ⊞ K (val e) ⊠ zpow k ⌝ }
+    ensures bits { λ b. ⌜ b ≡ ones (e .0) ⌝ }
+{
+    if e.0 == 0 {
+        return 0;
+    }
+    let received = block[k];
+    let corrected = received ^ e.0;
+    block[k] = corrected;
+    wrong_bits(received, corrected)
+}
+
+// The pattern is added to subword i: how many bits that changes.
+fn correct(p: Profile, i: usize, pattern: [Gf; POSITIONS], block: &mut [u8]) -> u16
     requires { ⌜ Fits p (now block) × (i < p .subwords) ⌝ }
-    ensures { λ _. ⌜ bytes (now (block .exit)) ≡
+    ensures block { λ _. ⌜ bytes (now (block .exit)) ≡
         add (p .length) i (cut (p .length) (values pattern)) (bytes (now (block .entry))) ⌝ }
+    ensures bits { λ b. ⌜ b ≡ bit-weight (p .length) (values pattern) ⌝ }
 {
     let n = p.length as usize;
     let a = i * n;
+    let mut bits: u16 = 0;
     let mut q: usize = 0;
     while q < n {
-        let e = pattern[q];
-        block[a + q] = block[a + q] ^ e.0;
+        bits = bits + change(a + q, pattern[q], block);
         q = q + 1;
     }
+    bits
 }
 
 // What an attempt has brought is taken: the block is corrected if the subword is settled.
@@ -73,17 +100,19 @@ fn take(p: Profile, r: u8, i: usize, a: Attempted, block: &mut [u8]) -> StagedSu
             pending: true,
             line: Line {
                 verdict: Verdict::Clean,
+                bits: 0,
                 solver: s,
             },
         };
     }
     let pattern = w.pattern;
-    correct(p, i, pattern, block);
+    let bits = correct(p, i, pattern, block);
     let v = verdict_of(r, w.count);
     StagedSubword {
         pending: false,
         line: Line {
             verdict: v,
+            bits: bits,
             solver: s,
         },
     }
@@ -127,6 +156,7 @@ pub fn stage(
             pending: false,
             line: Line {
                 verdict: Verdict::Clean,
+                bits: 0,
                 solver: s,
             },
         };
