@@ -26,11 +26,11 @@ pub fn blank() -> [u8; SECTION]
 }
 
 // Prints the line of block i, from what is answered and reported.
-fn told(i: u16, a: Answer, last: u8, changed: u16, line: &mut [u8; LINE]) -> usize
-    ensures { λ n. ⌜ Printed (Told i a last changed) (now (line .entry)) n (now (line .exit)) ⌝ }
+fn told(i: u16, a: Answer, last: u8, changed: u16, bits: u16, line: &mut [u8; LINE]) -> usize
+    ensures { λ n. ⌜ Printed (Told i a last changed bits) (now (line .entry)) n (now (line .exit)) ⌝ }
 {
     match a {
-        Answer::Accepted => listing::ok(i, last, changed, line),
+        Answer::Accepted => listing::ok(i, last, changed, bits, line),
         Answer::Refused(q) => listing::refused(i, profile::number(q), line),
     }
 }
@@ -64,7 +64,7 @@ fn read_block(
     let r = decoder::prepared::read(p, Form::Plain, t, u, block, out);
     let a = r.answer;
     let report = r.report;
-    told(i, a, report.last, report.changed, line)
+    told(i, a, report.last, report.changed, report.bits, line)
 }
 
 // Prints the line of block i. The tables serve the blocks of a card one after the other: they are made for the first

@@ -22,7 +22,7 @@ use Rattle.code.specs.Encoding.{codeword?}
 use Rattle.block.specs.Parts.{Fits}
 use Rattle.code.specs.Check.{Subwords}
 use Rattle.solver.specs.declared.Form.{Form}
-use Rattle.staged_decoding.specs.Definition.{total, count-of, settled, report, decode}
+use Rattle.staged_decoding.specs.Definition.{total, count-of, Line, settled, report, decode}
 use Rattle.staged_decoding.specs.Count.{total-cong}
 use Rattle.staged_decoding.specs.Foreign.{settled-subwords}
 use Rattle.staged_decoding.specs.Clean.{untouched, decode-codeword}
@@ -90,17 +90,20 @@ pub gives-read : (p : Profile) (f : Form) (y : Series) (b o c : List ℕ) (e : E
     → c ≡ b → length b ≡ block-size p → ((i : ℕ) → getD b i 0 < 256)
     → Reached p f y (bytes b) e → e .settled ≡ true → holds (codeword? p (bytes b)) ≡ true → a .answer ≡ answer.Accepted
     → a .report .lines ≡ e .lines
-    → a .report .changed ≡ total (p .subwords) (λ i. count-of (says (e .lines) i)) → a .report .last ≡ e .stage
+    → a .report .changed ≡ total (p .subwords) (λ i. count-of (says (e .lines) i .verdict))
+    → a .report .bits ≡ total (p .subwords) (λ i. says (e .lines) i .bits) → a .report .last ≡ e .stage
     → Gives f (concluded p (decode p y)) o c a
 unfolding decode report
-gives-read p f y b o c e a copied long small r h code says lines changed last =
+gives-read p f y b o c e a copied long small r h code says lines changed bits last =
     rw (reached-settled p f y (bytes b) e r h, r .block, code) (record {
       answer = says;
       block = copied ∙ sym (word-bytes (block-size p) b long small);
       report = rw lines (record {
         long = r .long;
         lines = r .kept .says;
-        changed = changed ∙ total-cong (p .subwords) _ _ (λ i m. ap count-of (r .kept .says i));
+        changed = changed
+            ∙ total-cong (p .subwords) _ _ (λ i m. ap (λ (l : Line). count-of (l .verdict)) (r .kept .says i));
+        bits = bits ∙ total-cong (p .subwords) _ _ (λ i m. ap (λ (l : Line). l .bits) (r .kept .says i));
         last = last;
         solvers = reached-solvers p f y (bytes b) e r h;
       });

@@ -8,18 +8,20 @@
 --   Alike f g x e k a c   the readings a and c end alike, but for the solvers: each stands at the end of the rounds of
 --                     its subword, which x says, in its form
 --
--- Proved: an accepted block is a codeword, always (read-accepts, read-codeword), and its report counts what was changed
--- (read-reports); a block with right sizes is decoded as staged decoding says (reading-is, extraction-is); a written
--- block is restored under the condition of FORMAT 6.11 (read-restores), and one that was not touched always
--- (read-written); the answer is 8 exactly if decoding fails (read-fails), where no mistake is made exactly if too many
--- subwords have too many changes (read-fails-exactly). Two readings of the same bytes that differ in the form alone end
--- alike (alike).
+-- Proved: an accepted block is a codeword, always (read-accepts, read-codeword), and its report counts what was changed,
+-- symbols and bits (read-reports); a block with right sizes is decoded as staged decoding says (reading-is,
+-- extraction-is); a written block is restored under the condition of FORMAT 6.11 (read-restores), and one that was not
+-- touched always (read-written); the answer is 8 exactly if decoding fails (read-fails), where no mistake is made
+-- exactly if too many subwords have too many changes (read-fails-exactly). Two readings of the same bytes that differ
+-- in the form alone end alike (alike).
 use Prim.Native.Nat.{ℕ, _≤_, _<_}
 use mathlib.Core.Path.{_≡_, refl, sym, ap, _∙_, subst}
 use mathlib.Core.Bool.{not}
 use mathlib.Core.Logic.{_↔_}
 use mathlib.Core.List.{List, map}
 use native.Mathlib.Omega.{arith}
+use lib.Bits.{bitXor}
+use lib.Count.{ones}
 use lib.ListN.{length, getD}
 use Rattle.field.specs.Field.{byte, _≟_}
 use Rattle.series.specs.Series.{Series}
@@ -43,10 +45,11 @@ use Rattle.solver.specs.declared.Form.{Form}
 use Rattle.solver.specs.ContinuationDefinition.{Ended}
 use Rattle.staged_decoding.specs.Definition as staged
 use Rattle.staged_decoding.specs.Definition.{Outcome, accepted, failed, foreign, decode}
-use Rattle.staged_decoding.specs.Definition.{clean, count-of, total, report, differences}
+use Rattle.staged_decoding.specs.Definition.{clean, count-of, clean-line, total, report, differences, bit-differences}
 use Rattle.staged_decoding.specs.Count.{count-cong, total-cong}
 use Rattle.staged_decoding.specs.Course.{Over, Fails, accepted-course, failed-course}
-use Rattle.staged_decoding.specs.Accepted.{accepted-codeword, accepted-count, accepted-changed, accepted-line-past}
+use Rattle.staged_decoding.specs.Accepted.{accepted-codeword, accepted-count, accepted-line-bits, clean-bits}
+use Rattle.staged_decoding.specs.Accepted.{accepted-changed, accepted-bits, accepted-line-past}
 use Rattle.staged_decoding.specs.Restorable.{Unmistaken, Restorable, TooMany, Restored}
 use Rattle.staged_decoding.specs.Restoring.{restoring-bytes}
 use Rattle.staged_decoding.specs.Failing.{failing-exactly}
@@ -130,10 +133,16 @@ read-codeword b y o e =
 -- ---- reports
 
 pub record Reports (p : Profile) (y e : List ℕ) (a : Reading) : Type 0 where
-  -- the count of a line says at how many positions its subword was changed, and lines that are no subword's are clean
-  pub count : (i : ℕ) → i < p .subwords → count-of (says (a .report .lines) i) ≡ differences p (bytes y) (bytes e) i
-  pub past : (i : ℕ) → p .subwords ≤ i → says (a .report .lines) i ≡ clean
+  -- the count of a line says at how many positions its subword was changed, its bits say in how many bits, which a
+  -- clean one has none of, and lines that are no subword's are clean
+  pub count : (i : ℕ) → i < p .subwords
+      → count-of (says (a .report .lines) i .verdict) ≡ differences p (bytes y) (bytes e) i
+  pub line-bits : (i : ℕ) → i < p .subwords
+      → says (a .report .lines) i .bits ≡ bit-differences p (bytes y) (bytes e) i
+  pub clean-bits : (i : ℕ) → says (a .report .lines) i .verdict ≡ clean → says (a .report .lines) i .bits ≡ 0
+  pub past : (i : ℕ) → p .subwords ≤ i → says (a .report .lines) i ≡ clean-line
   pub changed : a .report .changed ≡ total (p .subwords) (differences p (bytes y) (bytes e))
+  pub bits : a .report .bits ≡ total (p .subwords) (bit-differences p (bytes y) (bytes e))
   -- the last stage was entered, and after it every subword is settled
   pub last : Over p (bytes y) (a .report .last)
 
@@ -143,6 +152,13 @@ unfolding differences
 differences-agree p y s t same i h =
     count-cong (p .length) _ _
     (λ q l. ap (λ v. not (holds (subword (p .length) y i q ≟ v))) (same i (omega arith) h q l))
+
+bit-differences-agree : (p : Profile) (y s t : Series) → Agree p 0 s t → (i : ℕ) → i < p .subwords
+    → bit-differences p y s i ≡ bit-differences p y t i
+unfolding bit-differences
+bit-differences-agree p y s t same i h =
+    total-cong (p .length) _ _
+    (λ q l. ap (λ v. ones (bitXor (byte (subword (p .length) y i q)) (byte v))) (same i (omega arith) h q l))
 
 pub read-reports : (f : Form) (b y o e : List ℕ) (a : Reading) → Gives f (reading b y (length o)) o e a
     → a .answer ≡ answer.Accepted
@@ -158,6 +174,10 @@ read-reports f b y o e a g answered =
     let same : (i : ℕ) → i < p .subwords → differences p (bytes y) (x .block) i ≡ differences p (bytes y) (bytes e) i =
     λ i h. differences-agree p (bytes y) (x .block) _ (cut-agrees p (x .block)) i h
     ∙ ap (λ s. differences p (bytes y) s i) (sym is) in
+    let same-bits : (i : ℕ) → i < p .subwords
+    → bit-differences p (bytes y) (x .block) i ≡ bit-differences p (bytes y) (bytes e) i =
+    λ i h. bit-differences-agree p (bytes y) (x .block) _ (cut-agrees p (x .block)) i h
+    ∙ ap (λ s. bit-differences p (bytes y) s i) (sym is) in
     let course = accepted-course p (bytes y) (x .block) (x .report) .0 (x .decoded) in
     let last : course .last ≡ a .report .last =
     sym (tells .last ∙ ap (λ (z : staged.Report). z .last) (course .says)) in (
@@ -165,11 +185,17 @@ read-reports f b y o e a g answered =
       x .profile,
       subst (λ s. Codeword p s) (sym is) (codeword-cong p (x .block) _ (cut-agrees p (x .block)) (course .code)),
       record {
-        count = λ i h. ap count-of (tells .lines i)
+        count = λ i h. ap (λ (l : staged.Line). count-of (l .verdict)) (tells .lines i)
             ∙ accepted-count p (bytes y) (x .block) (x .report) (x .decoded) i h ∙ same i h;
+        line-bits = λ i h. ap (λ (l : staged.Line). l .bits) (tells .lines i)
+            ∙ accepted-line-bits p (bytes y) (x .block) (x .report) (x .decoded) i h ∙ same-bits i h;
+        clean-bits = λ i h. rw (tells .lines i)
+            (clean-bits p (bytes y) (x .block) (x .report) (x .decoded) i (rw (tells .lines i) at h));
         past = λ i h. tells .lines i ∙ accepted-line-past p (bytes y) (x .block) (x .report) (x .decoded) i h;
         changed = tells .changed ∙ accepted-changed p (bytes y) (x .block) (x .report) (x .decoded)
             ∙ total-cong (p .subwords) _ _ same;
+        bits = tells .bits ∙ accepted-bits p (bytes y) (x .block) (x .report) (x .decoded)
+            ∙ total-cong (p .subwords) _ _ same-bits;
         last = subst (Over p (bytes y)) last (course .over);
       },
     )
@@ -230,6 +256,7 @@ pub record Alike (f g : Form) (x : staged.Report) (e k : List ℕ) (a c : Readin
   pub block : e ≡ k
   pub lines : (i : ℕ) → says (a .report .lines) i ≡ says (c .report .lines) i
   pub changed : a .report .changed ≡ c .report .changed
+  pub bits : a .report .bits ≡ c .report .bits
   pub last : a .report .last ≡ c .report .last
   pub solvers : (i : ℕ) (l m : Line) → Has (a .report .lines) i l → Has (c .report .lines) i m
       → Ended f (x .rounds i) (l .solver) × Ended g (x .rounds i) (m .solver)
@@ -242,6 +269,7 @@ alike f g r o e k a c x y = record {
   block = x .block ∙ sym (y .block);
   lines = λ i. x .report .lines i ∙ sym (y .report .lines i);
   changed = x .report .changed ∙ sym (y .report .changed);
+  bits = x .report .bits ∙ sym (y .report .bits);
   last = x .report .last ∙ sym (y .report .last);
   solvers = λ i l m h j. (x .report .solvers i l h, y .report .solvers i m j);
 }

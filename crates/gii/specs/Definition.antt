@@ -26,7 +26,7 @@ form-of (suc (suc zero)) = Scaled
 form-of (suc (suc (suc n))) = Plain
 
 abbrev pub numbers : Result → List ℕ
-numbers r = listed (report-of r .last) (report-of r .changed) (report-of r .line)
+numbers r = listed (report-of r .last) (report-of r .changed) (report-of r .bits) (report-of r .line)
 
 -- FORMAT 7.8 and 4.1
 abbrev pub reported : Result → List ℕ → List ℕ

@@ -200,10 +200,9 @@ form-other (suc (suc (suc n))) h k = refl
 -- in whatever form
 pub numbers-filled : (f : Form) (r : Result) (x : Report) (a : Answer) (l b e : List ℕ) → a ≡ answer-to r
     → Tells f (report-of r) x
-    → l ≡ listed (x .last) (x .changed) (says (x .lines)) → e ≡ unless-refused a (filled l b) b → e ≡ reported r b
+    → l ≡ listed (x .last) (x .changed) (x .bits) (says (x .lines)) → e ≡ unless-refused a (filled l b) b
+    → e ≡ reported r b
 numbers-filled f r x a l b e is tells list end = end ∙ ap₂ (λ a l. unless-refused a (filled l b) b) is (list ∙ told)
   where
-    told : listed (x .last) (x .changed) (says (x .lines)) ≡ numbers r
-    told =
-        ap₂ (λ n c. listed n c (says (x .lines))) (tells .last) (tells .changed)
-        ∙ ap (listed (report-of r .last) (report-of r .changed)) (fun-ext (tells .lines))
+    told : listed (x .last) (x .changed) (x .bits) (says (x .lines)) ≡ numbers r
+    told = rw (tells .last, tells .changed, tells .bits, fun-ext (tells .lines))

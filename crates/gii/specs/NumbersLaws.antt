@@ -1,7 +1,8 @@
 -- Lists of numbers, and buffers that they fill.
 --
--- Proved: a list takes up three numbers (put-three), line after line (lines-none, lines-more, lines-all); a buffer is
--- filled number by number (filled-more, filled-length, filled-all, filled-up).
+-- Proved: a list takes up three numbers (put-three) or two (put-two), line after line (lines-none, lines-more,
+-- lines-all; bits-none, bits-more, bits-all); a buffer is filled number by number (filled-more, filled-length,
+-- filled-all, filled-up).
 use Prim.Native.Nat.{ℕ, zero, suc, _+_, _*_, _≤_, _<_}
 use mathlib.Core.Path.{_≡_, refl, sym, ap, ap₂, _∙_}
 use mathlib.Core.List.{List, [], _∷_, _++_, append-assoc, append-nil}
@@ -13,7 +14,7 @@ use Rattle.staged_decoding.specs.Definition.{Line}
 use Rattle.stages.specs.declared.report.Line as stored
 use Rattle.stages.specs.Report.{verdict-of, says}
 use Rattle.stages.specs.Lines.{has, says-at}
-use Rattle.gii.specs.NumbersDefinition.{line-numbers, lines-numbers, filled}
+use Rattle.gii.specs.NumbersDefinition.{line-numbers, lines-numbers, two-bytes, bits-numbers, filled}
 
 -- ---- lists of numbers
 
@@ -24,20 +25,26 @@ entries (a ∷ b ∷ []) e = absurd (omega arith)
 entries (a ∷ b ∷ c ∷ []) e = refl
 entries (a ∷ b ∷ c ∷ d ∷ x) e = absurd (omega arith)
 
+pub put-two : (l : List ℕ) (k x y : ℕ) → k + 2 ≤ length l
+    → take (k + 2) (set (set l k x) (k + 1) y) ≡ take k l ++ (x ∷ y ∷ [])
+put-two l k x y h =
+    let a = set l k x in
+    let e2 : k + 2 ≡ suc (k + 1) = omega arith in
+    ap (λ n. take n (set a (k + 1) y)) e2
+    ∙ take-suc-set a (k + 1) y (omega (arith, length-set l k x))
+    ∙ ap (λ n. take n a ++ (y ∷ [])) (add-one k)
+    ∙ ap (λ w. w ++ (y ∷ [])) (take-suc-set l k x (omega arith))
+    ∙ append-assoc (take k l) (x ∷ []) (y ∷ [])
+
 three : (l : List ℕ) (k x y z : ℕ) → k + 3 ≤ length l
     → take (k + 3) (set (set (set l k x) (k + 1) y) (k + 2) z) ≡ take k l ++ (x ∷ y ∷ z ∷ [])
 three l k x y z h =
-    let a = set l k x in
-    let b = set a (k + 1) y in
-    let la : length a ≡ length l = length-set l k x in
-    let lb : length b ≡ length l = length-set a (k + 1) y ∙ la in
+    let b = set (set l k x) (k + 1) y in
+    let lb : length b ≡ length l = length-set (set l k x) (k + 1) y ∙ length-set l k x in
     let e3 : k + 3 ≡ suc (k + 2) = omega arith in
-    let e2 : k + 2 ≡ suc (k + 1) = omega arith in
     ap (λ n. take n (set b (k + 2) z)) e3
     ∙ take-suc-set b (k + 2) z (omega (arith, lb))
-    ∙ ap (λ n. take n b ++ (z ∷ [])) e2
-    ∙ ap (λ w. w ++ (z ∷ [])) (take-suc-set a (k + 1) y (omega (arith, la)) ∙ ap (λ n. take n a ++ (y ∷ [])) (add-one k)
-    ∙ ap (λ w. w ++ (y ∷ [])) (take-suc-set l k x (omega arith)) ∙ append-assoc (take k l) (x ∷ []) (y ∷ []))
+    ∙ ap (λ w. w ++ (z ∷ [])) (put-two l k x y (omega arith))
     ∙ append-assoc (take k l) (x ∷ y ∷ []) (z ∷ [])
 
 pub put-three : (list x : List ℕ) (k : ℕ) → k + 3 ≤ length list → length x ≡ 3
@@ -55,18 +62,38 @@ pub lines-more : (lines : List stored.Line) (h list next x : List ℕ) (i : ℕ)
     → take (3 + 3 * (i + 1)) next ≡ h ++ lines-numbers (i + 1) (says lines)
 lines-more lines h list next x i d below is line put =
     let n : 3 + 3 * (i + 1) ≡ 3 + 3 * i + 3 = omega arith in
-    let l : x ≡ line-numbers (says lines i) = line
-    ∙ ap line-numbers (sym (says-at lines i (getD lines i d) (has lines i d below))) in
+    let l : x ≡ line-numbers (says lines i .verdict) = line
+    ∙ ap (λ (l : Line). line-numbers (l .verdict)) (sym (says-at lines i (getD lines i d) (has lines i d below))) in
     ap (λ n. take n next) n
     ∙ put
     ∙ ap₂ _++_ is l
-    ∙ append-assoc h (lines-numbers i (says lines)) (line-numbers (says lines i))
+    ∙ append-assoc h (lines-numbers i (says lines)) (line-numbers (says lines i .verdict))
     ∙ ap (λ n. h ++ lines-numbers n (says lines)) (sym (add-one i))
 
-pub lines-all : (f : ℕ → Line) (h head list : List ℕ) (i : ℕ) → i ≡ 8 → length list ≡ 27 → take 3 head ≡ h
-    → take (3 + 3 * i) list ≡ take 3 head ++ lines-numbers i f → list ≡ h ++ lines-numbers 8 f
-lines-all f h head list i e long first is =
-    sym (take-all (3 + 3 * i) list (omega arith)) ∙ is ∙ ap₂ (λ n k. n ++ lines-numbers k f) first e
+pub lines-all : (f : ℕ → Line) (h list : List ℕ) (i : ℕ) → i ≡ 8
+    → take (3 + 3 * i) list ≡ h ++ lines-numbers i f → take 27 list ≡ h ++ lines-numbers 8 f
+lines-all f h list i e is = rw e at is
+
+pub bits-none : (f : ℕ → Line) (l : List ℕ) → take (29 + 2 * 0) l ≡ take 29 l ++ bits-numbers 0 f
+bits-none f l = sym (append-nil (take 29 l))
+
+pub bits-more : (lines : List stored.Line) (h list next : List ℕ) (i n : ℕ) (d : stored.Line) → i < length lines
+    → take (29 + 2 * i) list ≡ h ++ bits-numbers i (says lines) → n ≡ getD lines i d .bits
+    → take (29 + 2 * i + 2) next ≡ take (29 + 2 * i) list ++ two-bytes n
+    → take (29 + 2 * (i + 1)) next ≡ h ++ bits-numbers (i + 1) (says lines)
+bits-more lines h list next i n d below is bits put =
+    let k : 29 + 2 * (i + 1) ≡ 29 + 2 * i + 2 = omega arith in
+    let l : n ≡ says lines i .bits = bits
+    ∙ ap (λ (l : Line). l .bits) (sym (says-at lines i (getD lines i d) (has lines i d below))) in
+    ap (λ k. take k next) k
+    ∙ put
+    ∙ ap₂ (λ w n. w ++ two-bytes n) is l
+    ∙ append-assoc h (bits-numbers i (says lines)) (two-bytes (says lines i .bits))
+    ∙ ap (λ k. h ++ bits-numbers k (says lines)) (sym (add-one i))
+
+pub bits-all : (f : ℕ → Line) (h list : List ℕ) (i : ℕ) → i ≡ 8
+    → take (29 + 2 * i) list ≡ h ++ bits-numbers i f → take 45 list ≡ h ++ bits-numbers 8 f
+bits-all f h list i e is = rw e at is
 
 -- ---- filling a buffer
 

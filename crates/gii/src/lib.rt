@@ -88,7 +88,7 @@ pub extern "C" fn gii_decode(
     let a = r.answer;
     let x = r.report;
     let lines = x.lines;
-    let list = crate::numbers::list_of(x.last, x.changed, lines);
+    let list = crate::numbers::list_of(x.last, x.changed, x.bits, lines);
     crate::numbers::fill_if(a, &list, report);
     crate::numbers::result_of(a)
 }

@@ -7,16 +7,17 @@ ghost use lib.ListN.{length, take};
 ghost use Rattle.profile.specs.Definition.{unless-refused};
 ghost use Rattle.stages.specs.Report.{verdict-of, says};
 ghost use Rattle.gii.specs.NumbersDefinition.{unsettled-stage, stage-of, result-number, line-numbers};
-ghost use Rattle.gii.specs.NumbersDefinition.{head-numbers, listed, filled};
+ghost use Rattle.gii.specs.NumbersDefinition.{lines-numbers, two-bytes, bits-numbers, head-numbers, listed};
+ghost use Rattle.gii.specs.NumbersDefinition.{filled};
 use profile::Answer;
 use profile::Refusal;
 use profile::SUBWORDS;
 use stages::report::Line;
 use stages::report::Verdict;
 
-// The numbers of a report: the last stage, the changed symbols in two bytes, high byte first, and three for each of
-// eight lines.
-pub const REPORT: usize = 27;
+// The numbers of a report: the last stage, the changed symbols, and three for each of eight lines; then the changed
+// bits, and those of each line. Numbers of two bytes have the high byte first.
+pub const REPORT: usize = 45;
 
 fn unsettled_stage(q: Refusal) -> u8
     ensures { λ s. ⌜ s ≡ unsettled-stage q ⌝ }
@@ -75,6 +76,15 @@ fn put(x: [u8; 3], k: usize, list: &mut [u8])
     list[k + 2] = x[2];
 }
 
+// Puts a number of two bytes into the list, from k on.
+fn put_two(n: u16, k: usize, list: &mut [u8])
+    requires { ⌜ k + 2 ≤ length (now list) ⌝ }
+    ensures { λ _. ⌜ take (k + 2) (now (list .exit)) ≡ take k (now (list .entry)) ++ two-bytes n ⌝ }
+{
+    list[k] = (n / 256) as u8;
+    list[k + 1] = (n % 256) as u8;
+}
+
 // The numbers before the lines, and zeros.
 fn head(last: u8, changed: u16) -> [u8; REPORT]
     ensures { λ r. ⌜ take 3 r ≡ head-numbers last changed ⌝ }
@@ -86,16 +96,40 @@ fn head(last: u8, changed: u16) -> [u8; REPORT]
     list
 }
 
-// All numbers of a report.
-pub fn list_of(last: u8, changed: u16, lines: [Line; SUBWORDS]) -> [u8; REPORT]
-    ensures { λ r. ⌜ r ≡ listed last changed (says lines) ⌝ }
+// Puts the lines behind these.
+fn put_lines(lines: [Line; SUBWORDS], list: &mut [u8])
+    requires { ⌜ 27 ≤ length (now list) ⌝ }
+    ensures { λ _. ⌜ take 27 (now (list .exit)) ≡ take 3 (now (list .entry)) ++ lines-numbers 8 (says lines) ⌝ }
 {
-    let mut list = head(last, changed);
     let mut i: usize = 0;
     while i < SUBWORDS {
-        put(line_numbers(lines[i]), 3 + 3 * i, &mut list);
+        put(line_numbers(lines[i]), 3 + 3 * i, list);
         i = i + 1;
     }
+}
+
+// Puts the changed bits behind the lines, those of the block and then those of each line.
+fn put_bits(bits: u16, lines: [Line; SUBWORDS], list: &mut [u8])
+    requires { ⌜ 45 ≤ length (now list) ⌝ }
+    ensures { λ _. ⌜ take 45 (now (list .exit)) ≡
+        (take 27 (now (list .entry)) ++ two-bytes bits) ++ bits-numbers 8 (says lines) ⌝ }
+{
+    put_two(bits, 27, list);
+    let mut i: usize = 0;
+    while i < SUBWORDS {
+        let l = lines[i];
+        put_two(l.bits, 29 + 2 * i, list);
+        i = i + 1;
+    }
+}
+
+// All numbers of a report.
+pub fn list_of(last: u8, changed: u16, bits: u16, lines: [Line; SUBWORDS]) -> [u8; REPORT]
+    ensures { λ r. ⌜ r ≡ listed last changed bits (says lines) ⌝ }
+{
+    let mut list = head(last, changed);
+    put_lines(lines, &mut list);
+    put_bits(bits, lines, &mut list);
     list
 }
 

@@ -3,7 +3,8 @@
 --   ascii s                the bytes of s
 --   decimal n              n in decimal digits, the first of which is zero only if n is
 --   blocks-line n          the line that tells how many blocks a card has
---   ok-line i r c          block i was read, r being the last stage and c the number of changed symbols
+--   ok-line i r c w        block i was read, r being the last stage, c the number of changed symbols and w of changed
+--                          bits
 --   refused-line i q       block i was refused by the number q
 --   card-line q            the card was refused by the number q
 --   Printed x l n m        the text x was printed into an array that was l: it has n bytes, and the array is m now,
@@ -40,9 +41,11 @@ decimal n = digits n n
 abbrev pub blocks-line : ℕ → List ℕ
 blocks-line n = ascii "blocks " ++ decimal n ++ ascii "\n"
 
--- FORMAT 9.4: `I ok R C`, with the number of the block, the last stage entered and the number of changed bytes
-abbrev pub ok-line : ℕ → ℕ → ℕ → List ℕ
-ok-line i r c = decimal i ++ ascii " ok " ++ decimal r ++ ascii " " ++ decimal c ++ ascii "\n"
+-- FORMAT 9.4: `I ok R C W`, with the number of the block, the last stage entered, the number of changed bytes and the
+-- number of wrong bits
+abbrev pub ok-line : (i r c w : ℕ) → List ℕ
+ok-line i r c w =
+    decimal i ++ ascii " ok " ++ decimal r ++ ascii " " ++ decimal c ++ ascii " " ++ decimal w ++ ascii "\n"
 
 -- FORMAT 9.4: `I refused Q`, without a stage
 abbrev pub refused-line : ℕ → ℕ → List ℕ

@@ -193,8 +193,9 @@ decimal-short n h =
 pub blocks-short : (n : ℕ) → n < 65536 → length (blocks-line n) ≤ 32
 blocks-short n h = simp length-append (omega (arith, decimal-short n h))
 
-pub ok-short : (i r c : ℕ) → i < 65536 → r < 65536 → c < 65536 → length (ok-line i r c) ≤ 32
-ok-short i r c h g f = simp length-append (omega (arith, decimal-short i h, decimal-short r g, decimal-short c f))
+pub ok-short : (i r c w : ℕ) → i < 65536 → r < 65536 → c < 65536 → w < 65536 → length (ok-line i r c w) ≤ 32
+ok-short i r c w h g f e =
+    simp length-append (omega (arith, decimal-short i h, decimal-short r g, decimal-short c f, decimal-short w e))
 
 pub refused-short : (i q : ℕ) → i < 65536 → q < 65536 → length (refused-line i q) ≤ 32
 refused-short i q h g = simp length-append (omega (arith, decimal-short i h, decimal-short q g))

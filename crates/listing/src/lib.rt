@@ -8,7 +8,7 @@ ghost use Rattle.listing.specs.Definition.{Appended, Printed};
 use crate::text::digits;
 use crate::text::put;
 
-// Room for a line, the longest of which has 21 bytes.
+// Room for a line, the longest of which has 27 bytes.
 pub const LINE: usize = 32;
 
 // Appends a number, and a text behind it.
@@ -26,12 +26,13 @@ pub fn blocks(n: u16, line: &mut [u8; LINE]) -> usize
     field(line, a, n, b"\n")
 }
 
-pub fn ok(index: u16, last: u8, changed: u16, line: &mut [u8; LINE]) -> usize
-    ensures { λ r. ⌜ Printed (ok-line index last changed) (now (line .entry)) r (now (line .exit)) ⌝ }
+pub fn ok(index: u16, last: u8, changed: u16, bits: u16, line: &mut [u8; LINE]) -> usize
+    ensures { λ r. ⌜ Printed (ok-line index last changed bits) (now (line .entry)) r (now (line .exit)) ⌝ }
 {
     let a = field(line, 0, index, b" ok ");
     let b = field(line, a, last as u16, b" ");
-    field(line, b, changed, b"\n")
+    let c = field(line, b, changed, b" ");
+    field(line, c, bits, b"\n")
 }
 
 pub fn refused(index: u16, q: u8, line: &mut [u8; LINE]) -> usize

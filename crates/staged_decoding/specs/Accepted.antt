@@ -31,7 +31,7 @@ use Rattle.staged_decoding.specs.Stage.{verdict-at-is, stage-past, stage
 use Rattle.staged_decoding.specs.Rounds.{rounds-joined}
 use Rattle.staged_decoding.specs.Course.{before-stage, after-stage, Accepts, accepted-course}
 use Rattle.staged_decoding.specs.Course.{settled-course}
-use Rattle.staged_decoding.specs.Differences.{differences-weight, bit-differences-weight, bit-weight-none, bit-weight-le}
+use Rattle.staged_decoding.specs.Differences.{differences-weight, bit-differences-weight, bit-weight-zeros, bit-weight-le}
 use Rattle.staged_decoding.specs.Sound.{Settled, settled-line}
 
 pub accepted-codeword : (p : Profile) (y d : Series) (x : Report) → decode p y ≡ accepted d x → Codeword p d
@@ -112,7 +112,7 @@ module _ (p : Profile) (y d : Series) (x : Report) (e : decode p y ≡ accepted 
       go (yes h) =
           let none-changed : weight n (subword n (y ⊞ d) i) ≡ 0 =
           sym (differences-weight p y d i) ∙ sym (accepted-count i h) ∙ ap count-of f in
-          accepted-line-bits i h ∙ bit-differences-weight p y d i ∙ bit-weight-none n _ (zero-weight n _ none-changed)
+          accepted-line-bits i h ∙ bit-differences-weight p y d i ∙ bit-weight-zeros n _ (zero-weight n _ none-changed)
 
   pub accepted-changed : x .changed ≡ total (p .subwords) (differences p y d)
   unfolding report

@@ -4,7 +4,7 @@
 -- changes of their sum (differences-weight); blocks with the same symbols have none (differences-none). The same bit by
 -- bit: bit-differences-weight, bit-differences-none. What the line by a pattern says depends on its symbols alone (line-by-cong), its count
 -- and its bits are the differences (line-by-differs), and of n symbols it has at most 8 × n bits (bit-weight-le).
-use Prim.Native.Nat.{ℕ, zero, suc, _*_, _≤_, _<_}
+use Prim.Native.Nat.{ℕ, zero, suc, _+_, _*_, _≤_, _<_}
 use mathlib.Core.Path.{_≡_, sym, ap, ap₂, _∙_}
 use mathlib.Core.Bool.{Bool, not}
 use native.Mathlib.Omega.{arith}
@@ -20,7 +20,7 @@ use Rattle.code.specs.Systematic.{syndrome-cong, syndrome-⊞}
 use Rattle.code.specs.Definition.{subword}
 use Rattle.staged_decoding.specs.Definition.{count, line-of, bit-weight, line-by, differences, bit-differences}
 use Rattle.staged_decoding.specs.Count.{count-yes, count-no, count-zero, none-count}
-use Rattle.staged_decoding.specs.Count.{total-cong, total-zero, total-le}
+use Rattle.staged_decoding.specs.Count.{total-cong, total-zero, total-none, total-more, total-le}
 
 -- ---- sums of blocks
 
@@ -72,9 +72,17 @@ pub bit-weight-cong : (n : ℕ) (f g : Series) → ((q : ℕ) → q < n → f q 
 unfolding bit-weight
 bit-weight-cong n f g h = total-cong n _ _ (λ q l. ap (λ x. ones (byte x)) (h q l))
 
-pub bit-weight-none : (n : ℕ) (f : Series) → ((q : ℕ) → q < n → f q ≡ 𝟎) → bit-weight n f ≡ 0
+pub bit-weight-zeros : (n : ℕ) (f : Series) → ((q : ℕ) → q < n → f q ≡ 𝟎) → bit-weight n f ≡ 0
 unfolding bit-weight
-bit-weight-none n f h = total-zero n _ (λ q l. ones-none _ (ap byte (h q l) ∙ byte-zero))
+bit-weight-zeros n f h = total-zero n _ (λ q l. ones-none _ (ap byte (h q l) ∙ byte-zero))
+
+pub bit-weight-none : (f : Series) → bit-weight 0 f ≡ 0
+unfolding bit-weight
+bit-weight-none f = total-none _
+
+pub bit-weight-more : (n : ℕ) (f : Series) → bit-weight (n + 1) f ≡ bit-weight n f + ones (byte (f n))
+unfolding bit-weight
+bit-weight-more n f = total-more n _
 
 pub bit-weight-le : (n : ℕ) (f : Series) → bit-weight n f ≤ 8 * n
 unfolding bit-weight

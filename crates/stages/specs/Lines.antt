@@ -22,7 +22,6 @@ use Rattle.staged_decoding.specs.Definition as staged
 use Rattle.staged_decoding.specs.Definition.{put, total}
 use Rattle.staged_decoding.specs.Count.{total-none, total-more}
 use Rattle.staged_decoding.specs.Stage.{put-same, put-other}
-use Rattle.stages.specs.declared.report.Verdict.the-variants.{Clean}
 use Rattle.stages.specs.declared.report.Line.{Line}
 use Rattle.stages.specs.Report.{said, says, Has, Started}
 use Rattle.stages.specs.View.{shown}
@@ -59,20 +58,18 @@ unfolding says
 says-past lines i h =
     List·getD-eq-default (map said lines) staged.clean-line (omega (arith, length-map lines said))
 
-pub started : (f : Form) (s : Solver) → s .form ≡ f → Fresh s
-    → Started f (replicate 8 (record { verdict = Clean; bits = 0; solver = s }))
-started f s e h = record {
+pub started : (f : Form) (s : Solver) (l : Line) → s .form ≡ f → Fresh s → said l ≡ staged.clean-line → l .solver ≡ s
+    → Started f (replicate 8 l)
+started f s l e h blank kept = record {
   long = length-replicate 8 l;
   solvers = λ i x (m, is). subst (λ (x : Line). Ended f [] (x .solver))
-      (sym (getD-replicate 8 i l x (omega (arith, m, length-replicate 8 l))) ∙ is x) (ended-start f s e h);
+      (sym (getD-replicate 8 i l x (omega (arith, m, length-replicate 8 l))) ∙ is x) (rw kept (ended-start f s e h));
   says = λ i. all i (decLt i 8);
 }
   where
-    l : Line
-    l = record { verdict = Clean; bits = 0; solver = s }
-
     all : (i : ℕ) → Dec (i < 8) → says (replicate 8 l) i ≡ staged.clean-line
-    all i (yes h) = says-at (replicate 8 l) i l (omega (arith, length-replicate 8 l), λ d. getD-replicate 8 i l d h)
+    all i (yes h) =
+        says-at (replicate 8 l) i l (omega (arith, length-replicate 8 l), λ d. getD-replicate 8 i l d h) ∙ blank
     all i (no h) = says-past (replicate 8 l) i (omega (arith, length-replicate 8 l))
 
 -- ---- after a store

@@ -1,22 +1,26 @@
 -- A stage of one subword.
 --
--- Proved: a pattern added symbol by symbol (added); what verdicts say (clean-is, corrected-is); what becomes of a
--- subword that no pattern settles (took-none), that one settles (took-some), and that is clean (took-clean); with no
--- change at stage 0 the row is zero (no-change).
-use Prim.Native.Nat.{ℕ, _*_, _≤_, _<_}
-use mathlib.Core.Path.{_≡_, refl, sym, ap, _∙_, fun-ext, subst}
+-- Proved: a pattern added symbol by symbol (added, added-one, added-zero), and its bits counted (differ-by,
+-- counted-one); what verdicts say (clean-is, corrected-is); what becomes of a subword that no pattern settles
+-- (took-none), that one settles (took-some), and that is clean (took-clean); with no change at stage 0 the row is zero
+-- (no-change).
+use Prim.Native.Nat.{ℕ, _+_, _*_, _≤_, _<_}
+use mathlib.Core.Path.{_≡_, refl, sym, ap, ap₂, _∙_, fun-ext, subst}
 use mathlib.Core.Logic.{_≢_, by-cases}
 use mathlib.Core.Bool.{Bool, true, false, _&&_, true≢false}
 use mathlib.Core.List.{List}
 use mathlib.Core.Option.{some}
 use native.Mathlib.Decide.{decLt, ℕ-discrete}
 use native.Mathlib.Omega.{arith}
+use native.Mathlib.Numerals.{add-one}
+use lib.Bits.{bitXor, xor-lt}
+use lib.Count.{ones}
 use lib.Dec.{eqb}
 use borrow.Author.Tests.{eqb-true, eq-eqb, ne-eqb}
 use Rattle.field.specs.declared.Gf.{Gf}
-use Rattle.field.specs.Field.{𝟎}
-use Rattle.series.specs.Series.{Series, O, O-at, _⊞_, _⊠_, ⊠-ring}
-use Rattle.series.specs.Shift.{zpow, cut}
+use Rattle.field.specs.Field.{𝟎, _⊕_, ⊕-self-left, of, byte, of-inj, of-xor, of-zero}
+use Rattle.series.specs.Series.{Series, O, K, O-at, _⊞_, _⊠_, ⊠-ring}
+use Rattle.series.specs.Shift.{zpow, cut, zpow-add, cut-suc}
 use Rattle.series.specs.Degree.{below, below-O, below-cut-eq}
 use Rattle.series.specs.Array.{values}
 use Rattle.series.specs.Value.{value-zero}
@@ -34,14 +38,15 @@ use Rattle.settling.specs.Definition.{Explains, settle}
 use Rattle.settling.specs.Settle.{settle-zero}
 use Rattle.settle.specs.Answer.{answer, Sound}
 use Rattle.solver.specs.ContinuationDefinition.{Ended}
-use Rattle.staged_decoding.specs.Definition.{verdict-at, line-of, bit-weight, add, line-rounds, rounds-of}
+use Rattle.staged_decoding.specs.Definition.{verdict-at, clean-line, bit-weight, add, line-rounds, rounds-of}
 use Rattle.staged_decoding.specs.Stage.{verdict-later, verdict-first}
-use Rattle.staged_decoding.specs.Differences.{bit-weight-cong, bit-weight-none}
+use Rattle.staged_decoding.specs.Differences.{bit-weight-cong, bit-weight-zeros, bit-weight-more}
 use Rattle.stages.specs.declared.attempt.Attempted.{Attempted}
 use Rattle.stages.specs.AttemptDefinition.{Ready}
+use Rattle.stages.specs.declared.report.Line.{Line}
 use Rattle.stages.specs.declared.report.Verdict.{Verdict}
 use Rattle.stages.specs.declared.report.Verdict.the-variants.{Clean, Corrected}
-use Rattle.stages.specs.Report.{verdict-of}
+use Rattle.stages.specs.Report.{verdict-of, said}
 use Rattle.stages.specs.SubwordDefinition.{Offered, Took}
 
 -- ---- patterns
@@ -50,12 +55,33 @@ pub added : (n i a : ℕ) (b c e : Series) → a ≡ i * n → c ≡ b ⊞ zpow 
 unfolding add
 added n i a b c e q h = h ∙ ap (λ k. b ⊞ zpow k ⊠ e) q
 
+-- one symbol more
+pub added-one : (a q : ℕ) (b c d e : Series) → c ≡ b ⊞ zpow a ⊠ cut q e → d ≡ c ⊞ K (e q) ⊠ zpow (a + q)
+    → d ≡ b ⊞ zpow a ⊠ cut (q + 1) e
+added-one a q b c d e h one = rw (one, h, zpow-add a q, add-one q, cut-suc q e) (simp ⊠-ring)
+
+-- a change of zero
+pub added-zero : (k x : ℕ) (b : Series) → x ≡ 0 → b ≡ b ⊞ K (of x) ⊠ zpow k
+added-zero k x b e = rw (e, of-zero) (simp ⊠-ring)
+
 add-none : (n i : ℕ) (b : Series) → b ≡ add n i O b
 unfolding add
 add-none n i b = simp ⊠-ring
 
 entry-none : (n : ℕ) → entry (word n O) ≡ O
 entry-none n = word-cut n O ∙ below-cut-eq n O (below-O n)
+
+-- ---- bits
+
+-- what a symbol x is corrected to differs from it by the change
+pub differ-by : (x e : ℕ) → x < 256 → e < 256 → bitXor x (bitXor x e) ≡ e
+differ-by x e small change =
+    of-inj _ e (xor-lt 8 x _ small (xor-lt 8 x e small change)) change
+    (of-xor x _ ∙ ap (λ s. of x ⊕ s) (of-xor x e) ∙ ⊕-self-left (of x) (of e))
+
+pub counted-one : (sum q n : ℕ) (e : Series) → sum ≡ bit-weight q e → n ≡ ones (byte (e q))
+    → sum + n ≡ bit-weight (q + 1) e
+counted-one sum q n e h one = ap₂ _+_ h one ∙ sym (bit-weight-more q e)
 
 -- ---- verdicts
 
@@ -70,11 +96,10 @@ corrected-is r k h =
 
 module _ (p : Profile) (f : Form) (r i : ℕ) (S : Series) (b : Series) where
   module _ (a : Attempted) (o : Offered p f r S a) where
-    pub took-none : a .settled .found ≡ false
-        → Took p f r i S (answer (p .length) (a .settled)) b b
-        (record { pending = true; line = record { verdict = Clean; bits = 0; solver = a .solver } })
+    pub took-none : (l : Line) → a .settled .found ≡ false → said l ≡ clean-line → l .solver ≡ a .solver
+        → Took p f r i S (answer (p .length) (a .settled)) b b (record { pending = true; line = l })
     unfolding answer
-    took-none missing = rw missing (refl, refl, refl, o .solver)
+    took-none l missing blank kept = rw (missing, kept) (refl, refl, blank, o .solver)
 
     pub took-some : (c : Series) (v : Verdict) (bits : ℕ) → a .settled .found ≡ true
         → c ≡ add (p .length) i (cut (p .length) (values (a .settled .pattern))) b
@@ -98,15 +123,15 @@ module _ (p : Profile) (f : Form) (r i : ℕ) (S : Series) (b : Series) where
               (corrected-is r _ (λ (e, z). o .some hit e z)) (o .solver)),
         )
 
-  pub took-clean : (t : ℕ) (s : Solver) → p .length ≤ 255 → r ≡ 0 → S ≡ O → Ready p f r S s
-      → Took p f r i S (settle (first-root p) t (p .length) S) b b
-      (record { pending = false; line = record { verdict = Clean; bits = 0; solver = s } })
-  took-clean t s hn e z h =
+  pub took-clean : (t : ℕ) (s : Solver) (l : Line) → p .length ≤ 255 → r ≡ 0 → S ≡ O → Ready p f r S s
+      → said l ≡ clean-line → l .solver ≡ s
+      → Took p f r i S (settle (first-root p) t (p .length) S) b b (record { pending = false; line = l })
+  took-clean t s l hn e z h blank kept =
       let n = p .length in
-      rw (z, settle-zero (first-root p) t n hn) (
+      rw (z, settle-zero (first-root p) t n hn, kept) (
         refl,
         add-none n i b ∙ ap (λ e. add n i e b) (sym (entry-none n)),
-        λ j. record { verdict = clean-is r _ e none-changed j; bits = sym no-bits j },
+        blank ∙ (λ j. record { verdict = clean-is r _ e none-changed j; bits = sym no-bits j }),
         subst (λ v. Ended f (line-rounds p O v) s) (clean-is r _ e none-changed) (rw e at (h .ended)),
       )
     where
@@ -114,7 +139,7 @@ module _ (p : Profile) (f : Form) (r i : ℕ) (S : Series) (b : Series) where
       none-changed = weight-word (p .length) O ∙ weight-O (p .length)
 
       no-bits : bit-weight (p .length) (entry (word (p .length) O)) ≡ 0
-      no-bits = bit-weight-none (p .length) _ (λ q l. entry-word (p .length) O q l ∙ O-at q)
+      no-bits = bit-weight-zeros (p .length) _ (λ q l. entry-word (p .length) O q l ∙ O-at q)
 
 -- a pattern without a change explains a row of zeros only
 pub no-change : (h t n : ℕ) (S e : Series) → below (2 * t) S → Explains h t n S e → weight n e ≡ 0 → S ≡ O

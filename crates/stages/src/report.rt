@@ -2,9 +2,9 @@
 // entered: FORMAT 7. What it says stands in specs/Report.antt.
 ghost use Prim.Native.Nat.{_≤_};
 ghost use mathlib.Core.Path.{_≡_};
-ghost use Rattle.staged_decoding.specs.Definition.{total, count-of};
+ghost use Rattle.staged_decoding.specs.Definition.{total, count-of, clean-line};
 ghost use Rattle.staged_decoding.specs.Clean.{untouched};
-ghost use Rattle.stages.specs.Report.{verdict-of, says, Started, Counted, Tells};
+ghost use Rattle.stages.specs.Report.{verdict-of, said, says, Started, Counted, Tells};
 use profile::SUBWORDS;
 use solver::Form;
 use solver::Solver;
@@ -68,16 +68,23 @@ pub fn summed(lines: [Line; SUBWORDS], m: usize, last: u8) -> Report
     }
 }
 
+// The line of a subword in which nothing was changed, with its solver.
+pub fn clean(s: Solver) -> Line
+    ensures { λ l. ⌜ (said l ≡ clean-line) × (l .solver ≡ s) ⌝ }
+{
+    Line {
+        verdict: Verdict::Clean,
+        bits: 0,
+        solver: s,
+    }
+}
+
 // Eight lines at their start.
 pub fn start(form: Form) -> [Line; SUBWORDS]
     ensures { λ l. ⌜ Started form l ⌝ }
 {
     let s = Solver::start(form);
-    let l = Line {
-        verdict: Verdict::Clean,
-        bits: 0,
-        solver: s,
-    };
+    let l = clean(s);
     [l; SUBWORDS]
 }
 

@@ -6,8 +6,10 @@ ghost use mathlib.Core.Bool.{true, false, _&&_};
 ghost use lib.Bits.{bitXor};
 ghost use lib.Count.{ones};
 ghost use lib.Dec.{eqb};
-ghost use Rattle.series.specs.Series.{Series};
-ghost use Rattle.series.specs.Shift.{cut};
+ghost use lib.ListN.{length};
+ghost use Rattle.field.specs.Field.{val};
+ghost use Rattle.series.specs.Series.{Series, K, _⊞_, _⊠_};
+ghost use Rattle.series.specs.Shift.{zpow, cut};
 ghost use Rattle.series.specs.Array.{bytes, values};
 ghost use Rattle.series.specs.Decide.{holds};
 ghost use Rattle.polynomial.specs.Polynomial.{row as Row};
@@ -59,6 +61,7 @@ fn change(k: usize, e: Gf, block: &mut [u8]) -> u16
     requires { ⌜ k < length (now block) ⌝ }
     ensures block { λ _. ⌜ bytes (now (block .exit)) ≡ bytes (now (block .entry)) ⊞ K (val e) ⊠ zpow k ⌝ }
     ensures bits { λ b. ⌜ b ≡ ones (e .0) ⌝ }
+    ensures small { λ b. ⌜ b ≤ 8 ⌝ }
 {
     if e.0 == 0 {
         return 0;
@@ -98,11 +101,7 @@ fn take(p: Profile, r: u8, i: usize, a: Attempted, block: &mut [u8]) -> StagedSu
     if !w.found {
         return StagedSubword {
             pending: true,
-            line: Line {
-                verdict: Verdict::Clean,
-                bits: 0,
-                solver: s,
-            },
+            line: crate::report::clean(s),
         };
     }
     let pattern = w.pattern;
@@ -154,11 +153,7 @@ pub fn stage(
     if is_clean(r, row) {
         return StagedSubword {
             pending: false,
-            line: Line {
-                verdict: Verdict::Clean,
-                bits: 0,
-                solver: s,
-            },
+            line: crate::report::clean(s),
         };
     }
     let a = crate::attempt::attempt(p, r, s, row);

@@ -26,8 +26,9 @@ returns c =
     let given = at-shared-slice-known2 .before .before in
     let gives = at-read .read .ensures in
     let result = concluded (given .args .p) (decode (given .args .p) (bytes (given .args .block .now))) in
-    printed-as (told-line (given .args .i) result _ _ _ (gives .answer) (gives .report .last) (gives .report .changed))
-    (c .told .ensures)
+    printed-as
+    (told-line (given .args .i) result _ _ _ _ (gives .answer) (gives .report .last) (gives .report .changed)
+    (gives .report .bits)) (c .told .ensures)
 
 pub read-block-spec : {M : Type 1} → statement M
 read-block-spec = tie.close (tie.spec read-requires told-requires same-length returns)

@@ -24,14 +24,14 @@ refused-requires c κs = search needs
 returns : tie.Need-returns
 returns c =
     let given = c .before .before .before .before in
-    printed-as (ap (λ a. told (given .args .i) a (given .args .last) (given .args .changed))
+    printed-as (ap (λ a. told (given .args .i) a (given .args .last) (given .args .changed) (given .args .bits))
     (sym (c .before .before .enum-told .given .1))) (c .ok .ensures)
 
 returns-2 : tie.Need-returns-2
 returns-2 c =
     let at-a = c .before .before .before .before in
     let given = at-a .before .before in
-    printed-as (ap (λ a. told (given .args .i) a (given .args .last) (given .args .changed))
+    printed-as (ap (λ a. told (given .args .i) a (given .args .last) (given .args .changed) (given .args .bits))
     (sym (at-a .a .given .1)))
     (rw (c .before .before .number .ensures) at (c .refused .ensures))
 

@@ -28,7 +28,7 @@ is-codeword-requires c κs =
     let at-shared-slice-known = c .before .before .before .before in
     let given = at-shared-slice-known .before in (
       given .pre .0,
-      given .pre .3 (meets _ (c .if1 .left)),
+      given .pre .3 (meets _ (c .if1 .left)) .0,
       given .pre .2,
     )
 
@@ -58,16 +58,16 @@ copy-requires c κs =
     let given = at-struct-known .before .before .before .before in
     given .pre .1
 
-cast-changed : tie.Need-cast-changed
-cast-changed c = search needs
+cast-summed : tie.Need-cast-summed
+cast-summed c = search needs
 
-changed-requires : tie.Need-changed-requires
-changed-requires c κs =
+summed-requires : tie.Need-summed-requires
+summed-requires c κs =
     let at-copy = c .before .before .before .before in
     let at-if1 = at-copy .before .before .before .before in
     let at-shared-slice-known = at-if1 .before .before .before .before in
     let given = at-shared-slice-known .before in
-    given .pre .0 .valid .subwords .1
+    (given .pre .0 .valid .subwords .1, given .pre .3 (meets _ (at-if1 .if1 .left)) .1)
 
 same-length-3 : tie.Need-same-length-3
 same-length-3 c = search needs
@@ -83,10 +83,12 @@ returns-3 c =
     let given = at-shared-slice-known2 .before .before in
     let right = sym (at-is-codeword .is-codeword .ensures)
     ∙ meets _ (at-if2 .if2 .left) in
+    let summed = c .summed in
     λ y r. gives-read (given .args .p) (given .args .form) y (given .args .block .now) _ _ (given .args .e) _
     (at-copy .copy .ensures) (given .pre .0 .size)
     (λ i. omega (arith, at-shared-slice-known2 .shared-slice-known2 .given i)) r
-    (meets _ (at-if1 .if1 .left)) right refl refl (c .changed .ensures) refl
+    (meets _ (at-if1 .if1 .left)) right refl (summed .ensures .0 .0) (summed .ensures .1 .0) (summed .ensures .1 .1)
+    (summed .ensures .0 .1)
 
 pub conclude-spec : {M : Type 1} → statement M
 conclude-spec =
@@ -100,7 +102,7 @@ conclude-spec =
     same-length-2
     returns-2
     copy-requires
-    cast-changed
-    changed-requires
+    cast-summed
+    summed-requires
     same-length-3
     returns-3)

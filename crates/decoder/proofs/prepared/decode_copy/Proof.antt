@@ -4,6 +4,7 @@ use mathlib.Core.Path.{sym, ap, _∙_}
 use native.Mathlib.Omega.{arith}
 use Rattle.series.specs.Array.{bytes}
 use Rattle.code.specs.Check.{received}
+use Rattle.stages.specs.Walk.{reached-bits}
 use Rattle.decoder.specs.Laws.{fits-same, reached-same, reached-subwords}
 use borrow.Author.Needs.{needs}
 use Rattle.decoder.proofs.prepared.decode_copy.Statement.{statement}
@@ -39,7 +40,10 @@ conclude-requires c κs =
       record { valid = ok; size = omega (arith, same, first, given .pre .0 .size, given .pre .1) },
       omega (arith, same, first, given .pre .1, given .pre .2),
       given .pre .3,
-      reached-subwords _ (given .args .form) _ _ _ ok (at-run .run .ensures),
+      λ h. (
+        reached-subwords _ (given .args .form) _ _ _ ok (at-run .run .ensures) h,
+        reached-bits _ (given .args .form) _ _ _ (at-run .run .ensures) h ok,
+      ),
     )
 
 same-length : tie.Need-same-length
