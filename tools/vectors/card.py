@@ -1,6 +1,7 @@
 """test_card: the model's cards of seed 7, FORMAT's sample card cut at every byte and followed by one byte too many, and
-a card of hundreds of blocks, whole, cut in its last block and followed by one byte too many, cards without a profile
-and cards whose profile has eight bytes. The lists are what the model's card program prints."""
+a card of hundreds of blocks, whole, cut in its last block and followed by one byte too many, cards without a profile,
+cards whose profile has eight bytes and cards with many wrong bits. The lists are what the model's card program
+prints."""
 import random
 
 import cases
@@ -72,12 +73,30 @@ def first_root_cards():
     return every + [bytes([9]), bytes([9]) + whole[1:], bytes([9]) + PROFILE + bytes([0, 0, 0, 0]), bytes([255])]
 
 
+def leaked_cards():
+    """Blocks with so many changes in a strip, each of one bit, of eight and of any number."""
+    rng = random.Random('card with wrong bits/7')
+    every = []
+    for seven in [2, 1, 5, 1, 2, 0, 0], [8, 0, 60, 16, 0, 0, 0], [8, 0, 255, 24, 0, 0, 0]:
+        _, p = gii.read_profile(bytes(seven), LANDED)
+        card = bytes([7] + seven) + number(9)
+        for count in 0, 1, p.t[0]:
+            for changes in [1 << i for i in range(8)], [255], range(1, 256):
+                block = bytearray(gii.write_triangular(p, bytes(rng.randrange(256) for _ in range(p.data_size))))
+                for i in range(p.m):
+                    for place in rng.sample(range(p.n), count):
+                        block[i * p.n + place] ^= rng.choice(changes)
+                card += block
+        every.append(card)
+    return every
+
+
 def make():
     with stored(cases.cards) as folder:
         cards = {path.stem: path.read_bytes() for path in sorted((folder / 'cards').glob('*.bin'))}
     sample = cards['sample']
     every = list(cards.values()) + [sample[:k] for k in range(len(sample))] + [sample + b'\0'] + long_cards()
-    every += no_profile_cards() + first_root_cards()
+    every += no_profile_cards() + first_root_cards() + leaked_cards()
     stdin = number(len(every)) + b''.join(sized(card) for card in every)
     stdout = ''.join('card of %d\n' % len(card) + gii.card_program(card, LANDED) for card in every)
     return {'stdin': stdin, 'stdout': stdout.encode()}

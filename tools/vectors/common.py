@@ -8,9 +8,9 @@ import tempfile
 import cases
 import gii
 
-LANDED = gii.Rules(requests={2, 5, 7})  # the requests that have landed: all answers are judged with just these
+LANDED = gii.Rules(requests={1, 2, 5, 7})  # the requests that have landed: all answers are judged with just these
 # Which of the model's cases are taken, by the request that they were made for, 0 being the base. The second group comes
-# later, so that stored cases keep their place.
+# later, so that stored cases keep their place. For request 1 the model has cards alone, and all of its cards are taken.
 EARLIER, FIRST_ROOT = ('0', '2', '7'), ('5',)
 FORMS = {'plain': 'plain', 'ahead': 'lookahead', 'scaled': 'scaled'}     # the model's names of the forms, and ours
 LOOKAHEAD_HELD = ('gamma_S', 'delta_S', 'theta_S', 'g1', 'g2', 'h1', 'h2')

@@ -18,17 +18,22 @@ from .common import EARLIER, FIRST_ROOT, FORMS, HELD, LANDED, number, numbers, r
     trimmed
 
 
-# ---- what is expected: (number, stage, last, changed, lines, block)
+# ---- what is expected: (number, stage, last, changed, bits, lines, block)
 
 def refusal(refused, stage=None):
-    return refused, stage, None, None, None, None
+    return refused, stage, None, None, None, None, None
+
+
+def ones(x, y):
+    """In how many bits two words differ."""
+    return sum(bin(a ^ b).count('1') for a, b in zip(x, y))
 
 
 def answer(a):
     if a.number:
         return refusal(a.number, a.stage if a.number == 8 else None)
-    said = ['C' if line[0] == 'clean' else 'M%d/%d' % line[1:] for line in a.lines]
-    return 0, None, a.last, a.changed, said, bytes(a.block)
+    said = ['C' if line[0] == 'clean' else 'M%d/%d/%d' % (*line[1:], bits) for line, bits in zip(a.lines, a.strip_bits)]
+    return 0, None, a.last, a.changed, a.bits, said, bytes(a.block)
 
 
 def state_fields(form, iterations, st):
@@ -56,7 +61,7 @@ class Cases:
 
     def add(self, profile, block, size, expected, states=None):
         """A case. `states` is None, or form -> subword -> fields."""
-        refused, stage, last, changed, said, mended = expected
+        refused, stage, last, changed, bits, said, mended = expected
         self.bytes.append(bytes([states is not None, len(profile)]) + profile + sized(block) + number(size))
         self.lines.append('case%s |%s' % (spaced(profile), spaced([len(block), size])))
         for form, name in FORMS.items():
@@ -64,8 +69,8 @@ class Cases:
                 self.lines.append('%s %d%s | kept' % (name, refused, '' if stage is None else ' %d' % stage))
                 continue
             changes = [x for p in range(size) if block[p] != mended[p] for x in (p, mended[p])]
-            assert len(changes) == 2 * changed
-            head = '%s 0 |%s | %s' % (name, spaced([last, changed]), ' '.join(said))
+            assert (len(changes), ones(block, mended)) == (2 * changed, bits)
+            head = '%s 0 |%s | %s' % (name, spaced([last, changed, bits]), ' '.join(said))
             self.lines.append('%s |%s' % (head, spaced(changes)))
             for i in sorted(states[form]) if states else ():
                 self.lines.append('state %d%s' % (i, ''.join(' |' + spaced(f) for f in states[form][i])))
@@ -88,12 +93,13 @@ class Cases:
 
 def model_readings(c, folder, made_for):
     for row in rows(folder / 'reader.txt'):
-        as_of, profile, marks, size, block, refused, stage, last, changed, _, said, _, mended = row
+        as_of, profile, marks, size, block, refused, stage, last, changed, bits, said, strip_bits, mended = row
         if as_of not in made_for or marks != '-':
             continue
         profile, block, size = bytes(numbers(profile)), bytes(numbers(block)), int(size)
         if refused == '0':
-            expected = 0, None, int(last), int(changed), said.split(), bytes(numbers(mended))
+            lines = [line if line == 'C' else '%s/%s' % (line, b) for line, b in zip(said.split(), strip_bits.split())]
+            expected = 0, None, int(last), int(changed), int(bits), lines, bytes(numbers(mended))
         else:
             expected = refusal(int(refused), None if stage == '-' else int(stage))
         assert answer(model(profile, block, size)['plain']) == expected
@@ -111,7 +117,7 @@ def model_states(c, folder):
     for (profile, block), states in blocks.items():
         profile, block = bytes(numbers(profile)), bytes(numbers(block))
         expected = answer(model(profile, block, len(block))['plain'])
-        corrected = [i for i, said in enumerate(expected[4]) if said != 'C']
+        corrected = [i for i, said in enumerate(expected[5]) if said != 'C']
         assert all(sorted(states[form]) == corrected for form in FORMS)
         c.add(profile, block, len(block), expected, states)
 
@@ -123,12 +129,16 @@ def codeword(rng, profile):
     return p, gii.write_triangular(p, bytes(rng.randrange(256) for _ in range(p.data_size)))
 
 
-def change(rng, p, block, counts):
+def any_change(rng):
+    return rng.randint(1, 255)
+
+
+def change(rng, p, block, counts, by=any_change):
     """So many changes in each subword."""
     block = bytearray(block)
     for i, count in enumerate(counts):
         for q in rng.sample(range(p.n), min(count, p.n)):
-            block[i * p.n + q] ^= rng.randint(1, 255)
+            block[i * p.n + q] ^= by(rng)
     return bytes(block)
 
 
@@ -207,7 +217,7 @@ def placed(rng, p, worst):
     return counts
 
 
-def ending(c, rng, profile, r, states=True):
+def ending(c, rng, profile, r, states=True, by=any_change):
     """Accepted with last stage r: v - r + 1 subwords wait for it, or settle before."""
     p, w = codeword(rng, profile)
     worst = []
@@ -216,7 +226,7 @@ def ending(c, rng, profile, r, states=True):
         worst.append(rng.randint(min(p.t[s - 1] + 1, p.t[s]) if s else 0, p.t[s]))
     if worst and r:
         worst[0] = p.t[r]
-    return c.read(profile, change(rng, p, w, placed(rng, p, worst)), states=states)
+    return c.read(profile, change(rng, p, w, placed(rng, p, worst), by), states=states)
 
 
 def failing(c, rng, profile, r):
@@ -325,6 +335,58 @@ def first_root_questions(c, rng):
         c.read([2, 1, 5, 1, 2, 0, 0] + [255] * more, bytes(10))
 
 
+LEAKED = ([1, 0, 3, 1, 0, 0, 0], [2, 1, 5, 1, 2, 0, 0], [5, 2, 30, 4, 6, 9, 0], [8, 3, 30, 4, 6, 9, 12],
+          [4, 3, 20, 1, 2, 3, 4, 254])
+
+
+def one_bit(rng):
+    return 1 << rng.randrange(8)
+
+
+def eight_bits(rng):
+    return 255
+
+
+def leaked_bits(c, rng):
+    """Wrong bits: readings that end after each stage, with changes of one bit, of eight and of any number; zeros and
+    255s, received and mended; every change once; each subword as the only one that is changed; many bits."""
+    for profile in LEAKED:
+        p = gii.read_profile(profile, LANDED)[1]
+        for r in range(p.v + 1):
+            for by, least, most in (one_bit, 1, 1), (eight_bits, 8, 8), (any_change, 1, 8):
+                last = bits = None
+                while last != r or not bits:                  # until it ends there, with a change
+                    _, _, last, changed, bits, _, _ = ending(c, rng, profile, r, False, by)
+                assert least * changed <= bits <= most * changed
+    sample = [2, 1, 5, 1, 2, 0, 0]
+    p = gii.read_profile(sample, LANDED)[1]
+    for x in 0, 255, 15:
+        w = gii.write_triangular(p, bytes([x]) * p.data_size)
+        for e in 1, 128, 15, 240, 254, 255:
+            for places in [0], [4], [9], [0, 4], [4, 9], [0, 4, 9]:
+                block = bytearray(w)
+                for q in places:
+                    block[q] ^= e
+                c.read(sample, block)
+    profile = [8, 0, 60, 16, 0, 0, 0]
+    p, w = codeword(rng, profile)
+    for least in 0, 128:                                      # 128 changes in each block, 0 being none
+        block = bytearray(w)
+        for e in range(128):
+            block[e // 16 * p.n + rng.randrange(3) + 3 * (e % 16)] ^= least + e
+        c.read(profile, block)
+    profile = [8, 3, 30, 4, 6, 9, 12]
+    p, w = codeword(rng, profile)
+    for i in range(p.m):
+        for t in 1, p.t[0], p.t[3]:
+            outcome = c.read(profile, change(rng, p, w, [t if k == i else 0 for k in range(p.m)]))
+            assert sum(said != 'C' for said in outcome[5]) == 1
+    for profile in [8, 0, 255, 24, 0, 0, 0], [8, 3, 255, 21, 22, 23, 24]:
+        p, w = codeword(rng, profile)
+        outcome = c.read(profile, change(rng, p, w, [p.t[max(p.v - i, 0)] for i in range(p.m)], eight_bits))
+        assert outcome[4] == 8 * outcome[3] > 1024
+
+
 # ---- libfec's strips
 
 def libfec_strips():
@@ -343,8 +405,11 @@ def strips(c, lines):
         t, n, f = numbers(head)
         profile = bytes([1, 0, n, t, 0, 0, 0] + ([] if f == 1 else [f]))
         received, back = bytes(numbers(received)), bytes(numbers(back))
-        changed = sum(x != y for x, y in zip(received, back))
-        expected = (0, None, 0, changed, ['M%d/0' % changed if changed else 'C'], back) if back else refusal(8, 0)
+        if back:
+            changed, bits = sum(x != y for x, y in zip(received, back)), ones(received, back)
+            expected = 0, None, 0, changed, bits, ['M%d/0/%d' % (changed, bits) if changed else 'C'], back
+        else:
+            expected = refusal(8, 0)
         assert answer(model(profile, received, n)['plain']) == expected
         c.add(profile, received, n, expected)
 
@@ -363,5 +428,6 @@ def make():
         model_readings(c, folder, FIRST_ROOT)
     first_roots(c, random.Random('decode_vectors/first roots'))
     first_root_questions(c, random.Random('decode_vectors/first root questions'))
+    leaked_bits(c, random.Random('decode_vectors/leaked bits'))
     strips(c, lines)
     return {'stdin': number(len(c.bytes)) + b''.join(c.bytes), 'stdout': text(c.lines)}

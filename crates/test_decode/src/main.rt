@@ -1,13 +1,13 @@
 // Reads blocks in each form, as the cases of standard input say. It prints a line for each case and one for each form:
 //
 //     case PROFILE | block size, output size
-//     FORM 0 | last stage, symbols changed | the subwords' lines | position and byte, wherever the output differs
-//         from the block
+//     FORM 0 | last stage, symbols changed, bits changed | the subwords' lines | position and byte, wherever the output
+//         differs from the block
 //     FORM NUMBER | kept
 //
-// A subword's line is C (clean), or M with its count and stage. An 8 is followed by its stage. `kept` says that the
-// output, which held 170 everywhere before, holds it still; `lost` would say that it does not. In a case with states a
-// line follows for each corrected subword, with its number and the last state of its solver.
+// A subword's line is C (clean), or M with its count, stage and bits. An 8 is followed by its stage. `kept` says that
+// the output, which held 170 everywhere before, holds it still; `lost` would say that it does not. In a case with
+// states a line follows for each corrected subword, with its number and the last state of its solver.
 //
 // `stdout` holds the same lines from an independent model, and from an independent Reed-Solomon program (libfec) for
 // the strips at the end. tools/make_vectors makes both files.
@@ -75,17 +75,23 @@ fn subwords(p: Profile) -> usize
     p.subwords as usize
 }
 
-// C for a clean subword, else M with its count and stage.
+// M with three numbers.
+fn corrected(line: &mut [u8], at: usize, count: u8, stage: u8, bits: u16) -> usize {
+    let mut end = put(line, at, b" M");
+    end = digits(line, end, count as usize);
+    end = put(line, end, b"/");
+    end = digits(line, end, stage as usize);
+    end = put(line, end, b"/");
+    digits(line, end, bits as usize)
+}
+
+// C for a clean subword, else M with its count, its stage and its bits.
 fn verdict(line: &mut [u8], at: usize, l: Line) -> usize {
+    let bits = l.bits;
     let v = l.verdict;
     match v {
         Verdict::Clean => put(line, at, b" C"),
-        Verdict::Corrected(count, stage) => {
-            let mut end = put(line, at, b" M");
-            end = digits(line, end, count as usize);
-            end = put(line, end, b"/");
-            digits(line, end, stage as usize)
-        }
+        Verdict::Corrected(count, stage) => corrected(line, at, count, stage, bits),
     }
 }
 
@@ -135,17 +141,18 @@ fn state_lines(line: &mut [u8], p: Profile, all: [Line; 8]) {
     }
 }
 
-// The last stage, and how many symbols were changed.
-fn counts(line: &mut [u8], last: u8, changed: u16) -> usize {
+// The last stage, and how many symbols and bits were changed.
+fn counts(line: &mut [u8], last: u8, changed: u16, bits: u16) -> usize {
     let mut at = put(line, 0, b" 0 |");
     at = print::number(line, at, last as usize);
     at = print::number(line, at, changed as usize);
+    at = print::number(line, at, bits as usize);
     put(line, at, b" |")
 }
 
 fn show(line: &mut [u8], p: Profile, block: &[u8], out: &[u8], r: Report, states: bool) {
     let all = r.lines;
-    let mut at = counts(line, r.last, r.changed);
+    let mut at = counts(line, r.last, r.changed, r.bits);
     at = verdicts(line, at, p, all);
     at = put(line, at, b" |");
     at = print::changes(line, at, block, out);
