@@ -41,7 +41,7 @@ extern "C" {
  */
 enum {
     GII_PROFILE_BYTES = 7,
-    GII_REPORT_BYTES = 27,
+    GII_REPORT_BYTES = 45,
     GII_BLOCK_MAX = 2040,
     GII_DATA_MAX = 2024
 };
@@ -103,7 +103,8 @@ enum { GII_PLAIN = 0, GII_LOOKAHEAD = 1, GII_SCALED = 2 };
  *
  * An accepted reading writes the report as GII_REPORT_BYTES bytes (FORMAT 7.8), which gii_report_of takes apart. A
  * report buffer may have any size: a shorter one gets the first bytes of the report, and the bytes of a longer one past
- * the report keep their value. Later versions only append bytes.
+ * the report keep their value. Later versions only append bytes: the first 27 are the whole report of libraries from
+ * before wrong bits were counted, and a buffer of 27 bytes gets just these.
  */
 uint16_t gii_decode(const uint8_t *profile, size_t profile_size, const uint8_t *input, size_t input_size,
                     uint8_t *out, size_t out_size, uint8_t form, uint8_t *report, size_t report_size);
@@ -153,7 +154,9 @@ struct gii_report {
         uint8_t mended;  /* 0 or 1 */
         uint8_t changed; /* how many of its bytes were changed */
         uint8_t stage;   /* the stage that settled it */
+        uint16_t bits;   /* how many of its bits were wrong: ones in received byte exclusive-or mended byte, added */
     } strip[8];
+    uint16_t bits; /* how many bits of the block were wrong */
 };
 
 /* The report of these GII_REPORT_BYTES bytes. */
@@ -166,7 +169,9 @@ static inline struct gii_report gii_report_of(const uint8_t *bytes) {
         report.strip[i].mended = bytes[3 + 3 * i];
         report.strip[i].changed = bytes[4 + 3 * i];
         report.strip[i].stage = bytes[5 + 3 * i];
+        report.strip[i].bits = (uint16_t)(256 * bytes[29 + 2 * i] + bytes[30 + 2 * i]);
     }
+    report.bits = (uint16_t)(256 * bytes[27] + bytes[28]);
     return report;
 }
 

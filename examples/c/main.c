@@ -21,12 +21,12 @@ static void read_back(const uint8_t *damaged, const uint8_t *written, size_t siz
     uint16_t result = gii_decode(profile, sizeof profile, damaged, size, out, size, form, bytes, sizeof bytes);
     if (result == GII_OK) {
         struct gii_report report = gii_report_of(bytes);
-        printf("read: last stage %d, %d bytes changed, %s\n", report.last_stage, report.changed,
-               memcmp(out, written, size) == 0 ? "as written" : "not as written");
+        printf("read: last stage %d, %d bytes changed, %d bits wrong, %s\n", report.last_stage, report.changed,
+               report.bits, memcmp(out, written, size) == 0 ? "as written" : "not as written");
         for (int i = 0; i < 8; i++)
             if (report.strip[i].mended)
-                printf("  strip %d: %d bytes changed, settled at stage %d\n", i, report.strip[i].changed,
-                       report.strip[i].stage);
+                printf("  strip %d: %d bytes changed, %d bits wrong, settled at stage %d\n", i,
+                       report.strip[i].changed, report.strip[i].bits, report.strip[i].stage);
     } else {
         printf("refused %d after stage %d: %s; the report is %s\n", gii_number(result), gii_stage(result),
                gii_message(gii_number(result)), memcmp(bytes, kept, sizeof kept) == 0 ? "as it was" : "changed");

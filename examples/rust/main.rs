@@ -56,7 +56,7 @@ mod gii {
     use super::sys;
 
     pub const PROFILE_BYTES: usize = 7;
-    pub const REPORT_BYTES: usize = 27;
+    pub const REPORT_BYTES: usize = 45;
     pub const PLAIN: u8 = 0;
     pub const LOOKAHEAD: u8 = 1;
     pub const SCALED: u8 = 2;
@@ -146,6 +146,11 @@ fn damage(block: &mut [u8], i: usize, count: usize) {
     }
 }
 
+/// The number that two bytes of a report hold.
+fn pair(report: &[u8], at: usize) -> u16 {
+    u16::from_be_bytes([report[at], report[at + 1]])
+}
+
 /// Reads a damaged block, and says whether it is the one that was written.
 fn read_back(damaged: &[u8], written: &[u8], form: u8) {
     let mut report = [0; gii::REPORT_BYTES];
@@ -156,12 +161,13 @@ fn read_back(damaged: &[u8], written: &[u8], form: u8) {
         println!("refused {number} after stage {stage}: {what}; the report is {kept}");
         return;
     }
-    let changed = u16::from_be_bytes([report[1], report[2]]);
+    let (changed, bits) = (pair(&report, 1), pair(&report, 27));
     let same = if out == written { "as written" } else { "not as written" };
-    println!("read: last stage {}, {changed} bytes changed, {same}", report[0]);
-    for (i, line) in report[3..].chunks(3).enumerate() {
+    println!("read: last stage {}, {changed} bytes changed, {bits} bits wrong, {same}", report[0]);
+    for (i, line) in report[3..27].chunks(3).enumerate() {
         if line[0] == 1 {
-            println!("  strip {i}: {} bytes changed, settled at stage {}", line[1], line[2]);
+            let bits = pair(&report, 29 + 2 * i);
+            println!("  strip {i}: {} bytes changed, {bits} bits wrong, settled at stage {}", line[1], line[2]);
         }
     }
 }
