@@ -177,7 +177,8 @@ pub settled-bits : (p : Profile) (y : Series) (r : ℕ) (g : Progress)
     → (i : ℕ) → i < p .subwords → line-at g i .bits ≤ 8 * p .length
 settled-bits p y r g e i h =
     let (over, is) = settled-course p y r g e in
-    let bits : line-at g i .bits ≡ bit-weight (p .length) _ =
+    let word = subword (p .length) (y ⊞ after-stage p y r .block) i in
+    let bits : line-at g i .bits ≡ bit-weight (p .length) word =
     ap (λ (g : Progress). line-at g i .bits) is
     ∙ ap (λ (l : Line). l .bits) (settled-line p y r (over .none-left) i h .line-is) in
-    omega (arith, bits, bit-weight-le (p .length) _)
+    omega (arith, bits, bit-weight-le (p .length) word)

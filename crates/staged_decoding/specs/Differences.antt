@@ -97,8 +97,9 @@ bit-differences-weight p s t i = total-cong (p .length) _ _
 pub bit-differences-none : (p : Profile) (s t : Series) (i : ℕ)
     → ((q : ℕ) → q < p .length → subword (p .length) s i q ≡ subword (p .length) t i q) → bit-differences p s t i ≡ 0
 unfolding bit-differences
-bit-differences-none p s t i h =
-    total-zero (p .length) _ (λ q l. ones-none _ (ap (λ x. bitXor (byte x) _) (h q l) ∙ xor-self _))
+bit-differences-none p s t i h = total-zero (p .length) _ (λ q l.
+    let x = byte (subword (p .length) t i q) in
+    ones-none _ (ap (λ v. bitXor (byte v) x) (h q l) ∙ xor-self x))
 
 -- ---- lines
 

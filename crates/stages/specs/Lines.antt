@@ -2,8 +2,8 @@
 --
 -- Proved: what stands at a place (has, has-same, has-other); eight lines at their start (started);
 -- what lines say and show after a store (says-same, says-other, shown-set); what they say is added up line by line
--- (sum-none, sum-more).
-use Prim.Native.Nat.{ℕ, zero, suc, _+_, _≤_, _<_}
+-- (sum-none, sum-more), the bits of a line being few (bits-few).
+use Prim.Native.Nat.{ℕ, zero, suc, _+_, _*_, _≤_, _<_}
 use mathlib.Core.Path.{_≡_, refl, sym, ap, ap₂, _∙_, fun-ext, subst}
 use mathlib.Core.Logic.{_≢_}
 use mathlib.Core.Bool.{Bool, true, cond}
@@ -23,7 +23,7 @@ use Rattle.staged_decoding.specs.Definition.{put, total}
 use Rattle.staged_decoding.specs.Count.{total-none, total-more}
 use Rattle.staged_decoding.specs.Stage.{put-same, put-other}
 use Rattle.stages.specs.declared.report.Line.{Line}
-use Rattle.stages.specs.Report.{said, says, Has, Started}
+use Rattle.stages.specs.Report.{said, says, Has, Started, Counted}
 use Rattle.stages.specs.View.{shown}
 
 -- ---- places of a list
@@ -111,6 +111,12 @@ put-stay k x f e = fun-ext (λ i. go i (ℕ-discrete i k))
     go i (no n) = put-other k x f i n
 
 -- ---- sums
+
+pub bits-few : (lines : List Line) (m i sum : ℕ) (d : Line) → Counted m lines → i < m → i < length lines
+    → sum ≤ 2040 * i → sum + getD lines i d .bits ≤ 2040 * (i + 1)
+bits-few lines m i sum d few l h low =
+    let is = ap (λ (l : staged.Line). l .bits) (says-at lines i (getD lines i d) (has lines i d h)) in
+    omega (arith, is, few i l)
 
 -- f is what is added up
 module _ (f : staged.Line → ℕ) (lines : List Line) where

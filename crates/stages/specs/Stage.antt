@@ -187,7 +187,8 @@ module _ (p : Profile) (f : Form) (r : ℕ) (t : List (List Gf)) where
           (shown-set lines k (q .line) long pending (q .pending) flags ∙ rw (settled, says)) refl
           ∙ sym (step-some p r k G w (found-open p r G k (shown-yes pending lines k d flags h) ∙ is)))
           (rw settled refl)
-          (rw (settled, says) ended)
+          (subst (λ (o : Option staged.Line). Ended f (so-far p k (suc r) (table t k) o) (q .line .solver))
+          (sym (ap (λ x. cond x none (some (said (q .line)))) settled ∙ ap some says)) ended)
 
       pub mid-next : (z : List Gf) → k < length t → (getD pending k d ≡ false → Stayed (getD lines k e) b c q)
           → (getD pending k d ≡ true → (f : Form) → Ready p f r (row (getD t k z)) (getD lines k e .solver)

@@ -14,11 +14,11 @@ use native.Mathlib.Decide.{decLt, ℕ-discrete}
 use native.Mathlib.Omega.{arith}
 use native.Mathlib.Numerals.{add-one}
 use lib.Bits.{bitXor, xor-lt}
-use lib.Count.{ones}
+use lib.Count.{ones, ones-le}
 use lib.Dec.{eqb}
 use borrow.Author.Tests.{eqb-true, eq-eqb, ne-eqb}
 use Rattle.field.specs.declared.Gf.{Gf}
-use Rattle.field.specs.Field.{𝟎, _⊕_, ⊕-self-left, of, byte, of-inj, of-xor, of-zero}
+use Rattle.field.specs.Field.{𝟎, _⊕_, ⊕-self-left, of, byte, val, of-inj, of-xor, of-zero, val-of}
 use Rattle.series.specs.Series.{Series, O, K, O-at, _⊞_, _⊠_, ⊠-ring}
 use Rattle.series.specs.Shift.{zpow, cut, zpow-add, cut-suc}
 use Rattle.series.specs.Degree.{below, below-O, below-cut-eq}
@@ -61,8 +61,8 @@ pub added-one : (a q : ℕ) (b c d e : Series) → c ≡ b ⊞ zpow a ⊠ cut q 
 added-one a q b c d e h one = rw (one, h, zpow-add a q, add-one q, cut-suc q e) (simp ⊠-ring)
 
 -- a change of zero
-pub added-zero : (k x : ℕ) (b : Series) → x ≡ 0 → b ≡ b ⊞ K (of x) ⊠ zpow k
-added-zero k x b e = rw (e, of-zero) (simp ⊠-ring)
+pub added-zero : (k : ℕ) (e : Gf) (b : Series) → e .0 ≡ 0 → b ≡ b ⊞ K (val e) ⊠ zpow k
+added-zero k e b z = rw (val-of e, z, of-zero) (simp ⊠-ring)
 
 add-none : (n i : ℕ) (b : Series) → b ≡ add n i O b
 unfolding add
@@ -78,6 +78,9 @@ pub differ-by : (x e : ℕ) → x < 256 → e < 256 → bitXor x (bitXor x e) �
 differ-by x e small change =
     of-inj _ e (xor-lt 8 x _ small (xor-lt 8 x e small change)) change
     (of-xor x _ ∙ ap (λ s. of x ⊕ s) (of-xor x e) ∙ ⊕-self-left (of x) (of e))
+
+pub no-ones : (k : ℕ) → k ≡ 0 → ones k ≡ 0
+no-ones k e = omega (arith, ones-le 0 k (omega arith))
 
 pub counted-one : (sum q n : ℕ) (e : Series) → sum ≡ bit-weight q e → n ≡ ones (byte (e q))
     → sum + n ≡ bit-weight (q + 1) e

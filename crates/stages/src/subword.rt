@@ -7,7 +7,7 @@ ghost use lib.Bits.{bitXor};
 ghost use lib.Count.{ones};
 ghost use lib.Dec.{eqb};
 ghost use lib.ListN.{length};
-ghost use Rattle.field.specs.Field.{val};
+ghost use Rattle.field.specs.Field.{byte, val};
 ghost use Rattle.series.specs.Series.{Series, K, _⊞_, _⊠_};
 ghost use Rattle.series.specs.Shift.{zpow, cut};
 ghost use Rattle.series.specs.Array.{bytes, values};
@@ -60,7 +60,7 @@ fn wrong_bits(received: u8, corrected: u8) -> u16
 fn change(k: usize, e: Gf, block: &mut [u8]) -> u16
     requires { ⌜ k < length (now block) ⌝ }
     ensures block { λ _. ⌜ bytes (now (block .exit)) ≡ bytes (now (block .entry)) ⊞ K (val e) ⊠ zpow k ⌝ }
-    ensures bits { λ b. ⌜ b ≡ ones (e .0) ⌝ }
+    ensures bits { λ b. ⌜ b ≡ ones (byte (val e)) ⌝ }
     ensures small { λ b. ⌜ b ≤ 8 ⌝ }
 {
     if e.0 == 0 {

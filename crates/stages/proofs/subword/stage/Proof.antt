@@ -16,15 +16,20 @@ returns c =
 is-clean-requires : tie.Need-is-clean-requires
 is-clean-requires c κs = search needs
 
+clean-requires : tie.Need-clean-requires
+clean-requires c κs = search needs
+
 returns-2 : tie.Need-returns-2
 returns-2 c =
-    let at-if1 = c .before .before .before in
+    let at-if2 = c .before in
+    let at-is-clean = at-if2 .before in
+    let at-if1 = at-is-clean .before .before in
     let given = at-if1 .before .before in
     let waits = meets _ (at-if1 .if1 .left) in
-    let (first, zero) = clean-yes _ _ (sym (c .before .is-clean .ensures) ∙ c .if2 .taken) in (
+    let (first, zero) = clean-yes _ _ (sym (at-is-clean .is-clean .ensures) ∙ at-if2 .if2 .taken) in (
       λ settled. absurd (true≢false (sym waits ∙ settled)),
-      λ _ f ready. took-clean _ f _ _ _ _ _ (given .args .line .solver) (given .pre .0 .valid .length .1) first
-          (zero-row _ zero) ready,
+      λ _ f ready. took-clean _ f _ _ _ _ _ (given .args .line .solver) _ (given .pre .0 .valid .length .1) first
+          (zero-row _ zero) ready (c .clean .ensures .0) (c .clean .ensures .1),
     )
 
 attempt-requires : tie.Need-attempt-requires
@@ -62,6 +67,7 @@ stage-spec =
     (tie.spec
     returns
     is-clean-requires
+    clean-requires
     returns-2
     attempt-requires
     take-requires

@@ -5,11 +5,16 @@ use borrow.Author.Needs.{needs}
 use Rattle.stages.proofs.subword.take.Statement.{statement}
 use Rattle.stages.proofs.subword.take.Tie as tie
 
+clean-requires : tie.Need-clean-requires
+clean-requires c κs = search needs
+
 returns : tie.Need-returns
 returns c =
-    let at-slice-known = c .before .before .before .before in
+    let at-if1 = c .before in
+    let at-slice-known = at-if1 .before .before .before .before in
     let given = at-slice-known .before in
-    λ f S o. took-none _ f _ _ S _ (given .args .a) o (unless _ (c .if1 .taken))
+    λ f S o. took-none _ f _ _ S _ (given .args .a) o _ (unless _ (at-if1 .if1 .taken))
+    (c .clean .ensures .0) (c .clean .ensures .1)
 
 correct-requires : tie.Need-correct-requires
 correct-requires c κs = search needs
@@ -27,8 +32,8 @@ returns-2 c =
     let at-slice-known = at-if1 .before .before .before .before in
     let given = at-slice-known .before in
     λ f S o. took-some _ f _ _ S _ (given .args .a) o _
-    (c .verdict-of .result) (meets _ (at-if1 .if1 .left))
-    (at-correct .correct .ensures) (c .verdict-of .ensures)
+    (c .verdict-of .result) _ (meets _ (at-if1 .if1 .left))
+    (at-correct .correct .ensures .0) (c .verdict-of .ensures) (at-correct .correct .ensures .1)
 
 pub take-spec : {M : Type 1} → statement M
-take-spec = tie.close (tie.spec returns correct-requires verdict-of-requires same-length returns-2)
+take-spec = tie.close (tie.spec clean-requires returns correct-requires verdict-of-requires same-length returns-2)
