@@ -1,8 +1,8 @@
 -- Lists of numbers, and buffers that they fill.
 --
 -- Proved: a list takes up three numbers (put-three) or two (put-two), line after line (lines-none, lines-more,
--- lines-all; bits-none, bits-more, bits-all); a buffer is filled number by number (filled-more, filled-length,
--- filled-all, filled-up).
+-- lines-all; bits-none, bits-more, bits-all), part after part (listed-parts); a buffer is filled number by number
+-- (filled-more, filled-length, filled-all, filled-up).
 use Prim.Native.Nat.{ℕ, zero, suc, _+_, _*_, _≤_, _<_}
 use mathlib.Core.Path.{_≡_, refl, sym, ap, ap₂, _∙_}
 use mathlib.Core.List.{List, [], _∷_, _++_, append-assoc, append-nil}
@@ -14,7 +14,8 @@ use Rattle.staged_decoding.specs.Definition.{Line}
 use Rattle.stages.specs.declared.report.Line as stored
 use Rattle.stages.specs.Report.{verdict-of, says}
 use Rattle.stages.specs.Lines.{has, says-at}
-use Rattle.gii.specs.NumbersDefinition.{line-numbers, lines-numbers, two-bytes, bits-numbers, filled}
+use Rattle.gii.specs.NumbersDefinition.{line-numbers, lines-numbers, two-bytes, bits-numbers, head-numbers}
+use Rattle.gii.specs.NumbersDefinition.{listed, filled}
 
 -- ---- lists of numbers
 
@@ -94,6 +95,15 @@ bits-more lines h list next i n d below is bits put =
 pub bits-all : (f : ℕ → Line) (h list : List ℕ) (i : ℕ) → i ≡ 8
     → take (29 + 2 * i) list ≡ h ++ bits-numbers i f → take 45 list ≡ h ++ bits-numbers 8 f
 bits-all f h list i e is = rw e at is
+
+-- one part after the other: a to d are the list after each
+pub listed-parts : (f : ℕ → Line) (r k w : ℕ) (a b c d : List ℕ) → length d ≡ 45 → take 3 a ≡ head-numbers r k
+    → take 27 b ≡ take 3 a ++ lines-numbers 8 f → take 29 c ≡ take 27 b ++ two-bytes w
+    → take 45 d ≡ take 29 c ++ bits-numbers 8 f → d ≡ listed r k w f
+listed-parts f r k w a b c d long head lines block bits =
+    sym (take-all 45 d (omega arith))
+    ∙ bits
+    ∙ ap (λ l. l ++ bits-numbers 8 f) (block ∙ ap (λ l. l ++ two-bytes w) (lines ∙ ap (λ l. l ++ lines-numbers 8 f) head))
 
 -- ---- filling a buffer
 

@@ -108,13 +108,11 @@ fn put_lines(lines: [Line; SUBWORDS], list: &mut [u8])
     }
 }
 
-// Puts the changed bits behind the lines, those of the block and then those of each line.
-fn put_bits(bits: u16, lines: [Line; SUBWORDS], list: &mut [u8])
+// Puts the changed bits of the lines behind those of the block.
+fn put_bits(lines: [Line; SUBWORDS], list: &mut [u8])
     requires { ⌜ 45 ≤ length (now list) ⌝ }
-    ensures { λ _. ⌜ take 45 (now (list .exit)) ≡
-        (take 27 (now (list .entry)) ++ two-bytes bits) ++ bits-numbers 8 (says lines) ⌝ }
+    ensures { λ _. ⌜ take 45 (now (list .exit)) ≡ take 29 (now (list .entry)) ++ bits-numbers 8 (says lines) ⌝ }
 {
-    put_two(bits, 27, list);
     let mut i: usize = 0;
     while i < SUBWORDS {
         let l = lines[i];
@@ -129,7 +127,8 @@ pub fn list_of(last: u8, changed: u16, bits: u16, lines: [Line; SUBWORDS]) -> [u
 {
     let mut list = head(last, changed);
     put_lines(lines, &mut list);
-    put_bits(bits, lines, &mut list);
+    put_two(bits, 27, &mut list);
+    put_bits(lines, &mut list);
     list
 }
 
