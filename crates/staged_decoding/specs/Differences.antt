@@ -65,7 +65,7 @@ differences-none p s t i h =
 
 -- ---- bits
 
-ones-none : (k : ℕ) → k ≡ 0 → ones k ≡ 0
+pub ones-none : (k : ℕ) → k ≡ 0 → ones k ≡ 0
 ones-none k e = omega (arith, ones-le 0 k (omega arith))
 
 pub bit-weight-cong : (n : ℕ) (f g : Series) → ((q : ℕ) → q < n → f q ≡ g q) → bit-weight n f ≡ bit-weight n g

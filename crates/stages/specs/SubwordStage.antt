@@ -1,7 +1,7 @@
 -- A stage of one subword.
 --
 -- Proved: a pattern added symbol by symbol (added, added-one, added-zero), and its bits counted (differ-by,
--- counted-one); what verdicts say (clean-is, corrected-is); what becomes of a subword that no pattern settles
+-- counted-one, counted-zero); what verdicts say (clean-is, corrected-is); what becomes of a subword that no pattern settles
 -- (took-none), that one settles (took-some), and that is clean (took-clean); with no change at stage 0 the row is zero
 -- (no-change).
 use Prim.Native.Nat.{ℕ, _+_, _*_, _≤_, _<_}
@@ -14,13 +14,13 @@ use native.Mathlib.Decide.{decLt, ℕ-discrete}
 use native.Mathlib.Omega.{arith}
 use native.Mathlib.Numerals.{add-one}
 use lib.Bits.{bitXor, xor-lt}
-use lib.Count.{ones, ones-le}
+use lib.Count.{ones}
 use lib.Dec.{eqb}
 use borrow.Author.Tests.{eqb-true, eq-eqb, ne-eqb}
 use Rattle.field.specs.declared.Gf.{Gf}
-use Rattle.field.specs.Field.{𝟎, _⊕_, ⊕-self-left, of, byte, val, of-inj, of-xor, of-zero, val-of}
+use Rattle.field.specs.Field.{𝟎, _⊕_, ⊕-self-left, of, byte, of-inj, of-xor, byte-zero}
 use Rattle.series.specs.Series.{Series, O, K, O-at, _⊞_, _⊠_, ⊠-ring}
-use Rattle.series.specs.Shift.{zpow, cut, zpow-add, cut-suc}
+use Rattle.series.specs.Shift.{zpow, cut, zpow-add, cut-suc, cut-zero}
 use Rattle.series.specs.Degree.{below, below-O, below-cut-eq}
 use Rattle.series.specs.Array.{values}
 use Rattle.series.specs.Value.{value-zero}
@@ -40,7 +40,7 @@ use Rattle.settle.specs.Answer.{answer, Sound}
 use Rattle.solver.specs.ContinuationDefinition.{Ended}
 use Rattle.staged_decoding.specs.Definition.{verdict-at, clean-line, bit-weight, add, line-rounds, rounds-of}
 use Rattle.staged_decoding.specs.Stage.{verdict-later, verdict-first}
-use Rattle.staged_decoding.specs.Differences.{bit-weight-cong, bit-weight-zeros, bit-weight-more}
+use Rattle.staged_decoding.specs.Differences.{ones-none, bit-weight-cong, bit-weight-zeros, bit-weight-more}
 use Rattle.stages.specs.declared.attempt.Attempted.{Attempted}
 use Rattle.stages.specs.AttemptDefinition.{Ready}
 use Rattle.stages.specs.declared.report.Line.{Line}
@@ -60,9 +60,9 @@ pub added-one : (a q : ℕ) (b c d e : Series) → c ≡ b ⊞ zpow a ⊠ cut q 
     → d ≡ b ⊞ zpow a ⊠ cut (q + 1) e
 added-one a q b c d e h one = rw (one, h, zpow-add a q, add-one q, cut-suc q e) (simp ⊠-ring)
 
--- a change of zero
-pub added-zero : (k : ℕ) (e : Gf) (b : Series) → e .0 ≡ 0 → b ≡ b ⊞ K (val e) ⊠ zpow k
-added-zero k e b z = rw (val-of e, z, of-zero) (simp ⊠-ring)
+-- .. which is zero
+pub added-zero : (a q : ℕ) (b c e : Series) → c ≡ b ⊞ zpow a ⊠ cut q e → e q ≡ 𝟎 → c ≡ b ⊞ zpow a ⊠ cut (q + 1) e
+added-zero a q b c e h z = rw (cut-zero q e z) h
 
 add-none : (n i : ℕ) (b : Series) → b ≡ add n i O b
 unfolding add
@@ -79,12 +79,14 @@ differ-by x e small change =
     of-inj _ e (xor-lt 8 x _ small (xor-lt 8 x e small change)) change
     (of-xor x _ ∙ ap (λ s. of x ⊕ s) (of-xor x e) ∙ ⊕-self-left (of x) (of e))
 
-pub no-ones : (k : ℕ) → k ≡ 0 → ones k ≡ 0
-no-ones k e = omega (arith, ones-le 0 k (omega arith))
-
 pub counted-one : (sum q n : ℕ) (e : Series) → sum ≡ bit-weight q e → n ≡ ones (byte (e q))
     → sum + n ≡ bit-weight (q + 1) e
 counted-one sum q n e h one = ap₂ _+_ h one ∙ sym (bit-weight-more q e)
+
+pub counted-zero : (sum q : ℕ) (e : Series) → sum ≡ bit-weight q e → e q ≡ 𝟎 → sum ≡ bit-weight (q + 1) e
+counted-zero sum q e h z =
+    let none : ones (byte (e q)) ≡ 0 = ones-none _ (ap byte z ∙ byte-zero) in
+    omega (arith, h, none, bit-weight-more q e)
 
 -- ---- verdicts
 

@@ -51,7 +51,6 @@ fn verdict_of(r: u8, count: u8) -> Verdict
 // In how many bits a received symbol and what it is corrected to differ.
 fn wrong_bits(received: u8, corrected: u8) -> u16
     ensures { λ b. ⌜ b ≡ ones (bitXor received corrected) ⌝ }
-    ensures small { λ b. ⌜ b ≤ 8 ⌝ }
 {
     u8::count_ones(received ^ corrected) as u16
 }
@@ -61,18 +60,14 @@ fn change(k: usize, e: Gf, block: &mut [u8]) -> u16
     requires { ⌜ k < length (now block) ⌝ }
     ensures block { λ _. ⌜ bytes (now (block .exit)) ≡ bytes (now (block .entry)) ⊞ K (val e) ⊠ zpow k ⌝ }
     ensures bits { λ b. ⌜ b ≡ ones (byte (val e)) ⌝ }
-    ensures small { λ b. ⌜ b ≤ 8 ⌝ }
 {
-    if e.0 == 0 {
-        return 0;
-    }
     let received = block[k];
     let corrected = received ^ e.0;
     block[k] = corrected;
     wrong_bits(received, corrected)
 }
 
-// The pattern is added to subword i: how many bits that changes.
+// The pattern is added to subword i: how many bits that changes. Most of its symbols are zero, and passed over.
 fn correct(p: Profile, i: usize, pattern: [Gf; POSITIONS], block: &mut [u8]) -> u16
     requires { ⌜ Fits p (now block) × (i < p .subwords) ⌝ }
     ensures block { λ _. ⌜ bytes (now (block .exit)) ≡
@@ -84,7 +79,10 @@ fn correct(p: Profile, i: usize, pattern: [Gf; POSITIONS], block: &mut [u8]) -> 
     let mut bits: u16 = 0;
     let mut q: usize = 0;
     while q < n {
-        bits = bits + change(a + q, pattern[q], block);
+        let e = pattern[q];
+        if !e.is_zero() {
+            bits = bits + change(a + q, e, block);
+        }
         q = q + 1;
     }
     bits

@@ -47,8 +47,10 @@ add-bits c =
     let at-loop = c .before .before .before .before in
     let now = at-loop .loop in
     let given = at-loop .before in
-    record { fits = short (bits-few (given .args .t1) (given .args .m) (now .i) (now .bits) _ (given .pre .1)
-        (omega arith) (omega (arith, now .inv .1, given .pre .0)) (now .inv .3)) (omega (arith, given .pre .0)) }
+    record {
+      fits = short (bits-few (given .args .t1) (given .args .m) (now .i) (now .bits) _ (given .pre .1)
+          (omega arith) (omega (arith, now .inv .1, given .pre .0)) (now .inv .3)) (omega (arith, given .pre .0));
+    }
   where
     short : {b k : ℕ} → b ≤ 2040 * (k + 1) → k < 8 → b < 65536
     short h l = omega arith
@@ -80,8 +82,10 @@ returns c =
     let given = c .before .before .args in
     let e : end .i ≡ given .m = omega arith in (
       (refl, refl),
-      (end .inv .4 ∙ ap (λ i. total i (λ k. count-of (says (given .t1) k .verdict))) e,
-      end .inv .5 ∙ ap (λ i. total i (λ k. says (given .t1) k .bits)) e),
+      (
+        end .inv .4 ∙ ap (λ i. total i (λ k. count-of (says (given .t1) k .verdict))) e,
+        end .inv .5 ∙ ap (λ i. total i (λ k. says (given .t1) k .bits)) e,
+      ),
     )
 
 pub summed-spec : {M : Type 1} → statement M

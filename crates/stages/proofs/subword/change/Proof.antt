@@ -1,24 +1,16 @@
--- Nothing to change, or a symbol with its change.
+-- A symbol and what it is corrected to differ by the change.
 use Prim.Native.Nat.{_<_}
 use mathlib.Core.Path.{_≡_, sym, ap, _∙_}
 use native.Mathlib.Omega.{arith}
 use lib.Count.{ones}
 use lib.ListN.{getD}
-use Rattle.field.specs.Field.{_⊕_, of, byte, val, byte-of, byte-zero, of-zero, val-of}
+use Rattle.field.specs.Field.{_⊕_, byte, val, byte-of, val-of}
 use Rattle.series.specs.Array.{bytes}
 use Rattle.kernel.specs.Store.{bytes-add, bytes-xor}
-use Rattle.stages.specs.SubwordStage.{added-zero, no-ones, differ-by}
+use Rattle.stages.specs.SubwordStage.{differ-by}
 use borrow.Author.Needs.{needs}
 use Rattle.stages.proofs.subword.change.Statement.{statement}
 use Rattle.stages.proofs.subword.change.Tie as tie
-
-returns : tie.Need-returns
-returns c =
-    let given = c .before .before .before .args in
-    let none : given .e .0 ≡ 0 = omega arith in
-    let zero : byte (val (given .e)) ≡ 0 =
-    ap byte (val-of (given .e)) ∙ ap (λ x. byte (of x)) none ∙ ap byte of-zero ∙ byte-zero in
-    (added-zero (given .k) (given .e) (bytes (given .block .now)) none, (sym (no-ones _ zero), omega arith))
 
 slice-read-received : tie.Need-slice-read-received
 slice-read-received c = search needs
@@ -32,29 +24,20 @@ wrong-bits-requires c κs = search needs
 same-length : tie.Need-same-length
 same-length c = search needs
 
-returns-2 : tie.Need-returns-2
-returns-2 c =
-    let at-slice-known = c .before .before .before .before .before in
+returns : tie.Need-returns
+returns c =
+    let at-slice-known = c .before .before .before in
     let given = at-slice-known .before in
     let block = given .args .block .now in
     let e = given .args .e in
     let received = getD block (given .args .k) 0 in
-    let small : received < 256 = omega (arith, at-slice-known .slice-known .given (given .args .k)) in
-    let wrong = c .wrong-bits in (
+    let small : received < 256 = omega (arith, at-slice-known .slice-known .given (given .args .k)) in (
       bytes-add block (given .args .k) _ (val e) (given .pre)
           (bytes-xor block (given .args .k) (e .0) ∙ ap (λ s. bytes block (given .args .k) ⊕ s) (sym (val-of e))),
-      (wrong .ensures .0
-      ∙ ap ones (differ-by received (e .0) small (search needs) ∙ sym (ap byte (val-of e) ∙ byte-of (e .0) (search needs))),
-      wrong .ensures .1),
+      c .wrong-bits .ensures
+          ∙ ap ones (differ-by received (e .0) small (search needs)
+          ∙ sym (ap byte (val-of e) ∙ byte-of (e .0) (search needs))),
     )
 
 pub change-spec : {M : Type 1} → statement M
-change-spec =
-    tie.close
-    (tie.spec
-    returns
-    slice-read-received
-    slice-write-block
-    wrong-bits-requires
-    same-length
-    returns-2)
+change-spec = tie.close (tie.spec slice-read-received slice-write-block wrong-bits-requires same-length returns)

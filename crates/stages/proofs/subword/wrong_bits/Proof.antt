@@ -15,7 +15,7 @@ cast-result c =
     record { fits = omega (arith, few) }
 
 returns : tie.Need-returns
-returns c = (refl, ones-le 8 _ (xor-lt 8 (c .args .received) (c .args .corrected) (search needs) (search needs)))
+returns c = refl
 
 pub wrong-bits-spec : {M : Type 1} → statement M
 wrong-bits-spec = tie.close (tie.spec cast-result returns)
