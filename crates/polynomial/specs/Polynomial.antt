@@ -84,19 +84,18 @@ below-clear m n f b h k l = go (decLt k n)
     go (no s) = b k (omega arith)
 
 -- one more, found by a disjunction of bits
-pub clear-more : (l : List Gf) (m i any : ℕ) → i < 49 → (any ≡ 0 → Clear (poly l) m i)
-    → bitOr any (getD l i (record { 0 = 0 }) .0) ≡ 0 → Clear (poly l) m (i + 1)
-clear-more l m i any b h e k p q = go (ℕ-discrete k i)
+pub clear-more : (f : Series) (g : Gf) (m i any : ℕ) → f i ≡ val g → (any ≡ 0 → Clear f m i) → bitOr any (g .0) ≡ 0
+    → Clear f m (i + 1)
+clear-more f g m i any here h e k p q = go (ℕ-discrete k i)
   where
     left : any ≡ 0
-    left = omega (arith, or-add-and any (getD l i (record { 0 = 0 }) .0), and-le-r any (getD l i (record { 0 = 0 }) .0))
+    left = omega (arith, or-add-and any (g .0), and-le-r any (g .0))
 
-    right : getD l i (record { 0 = 0 }) .0 ≡ 0
-    right =
-        omega (arith, or-add-and any (getD l i (record { 0 = 0 }) .0), and-le-l any (getD l i (record { 0 = 0 }) .0))
+    right : g .0 ≡ 0
+    right = omega (arith, or-add-and any (g .0), and-le-l any (g .0))
 
-    go : Dec (k ≡ i) → poly l k ≡ 𝟎
-    go (yes s) = rw s (poly-at l i b ∙ val-is-zero _ right)
+    go : Dec (k ≡ i) → f k ≡ 𝟎
+    go (yes s) = rw s (here ∙ val-is-zero g right)
     go (no s) = h left k p (omega arith)
 
 -- f + a g and a f + b zg, of 49 coefficients each

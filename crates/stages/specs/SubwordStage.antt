@@ -4,7 +4,7 @@
 -- counted-one, counted-zero); what verdicts say (clean-is, corrected-is); what becomes of a subword that no pattern settles
 -- (took-none), that one settles (took-some), and that is clean (took-clean); with no change at stage 0 the row is zero
 -- (no-change).
-use Prim.Native.Nat.{ℕ, _+_, _*_, _≤_, _<_}
+use Prim.Native.Nat.{ℕ, zero, suc, _+_, _-_, _*_, _≤_, _<_}
 use mathlib.Core.Path.{_≡_, refl, sym, ap, ap₂, _∙_, fun-ext, subst}
 use mathlib.Core.Logic.{_≢_, by-cases}
 use mathlib.Core.Bool.{Bool, true, false, _&&_, true≢false}
@@ -12,6 +12,7 @@ use mathlib.Core.List.{List}
 use mathlib.Core.Option.{some}
 use native.Mathlib.Decide.{decLt, ℕ-discrete}
 use native.Mathlib.Omega.{arith}
+use native.Mathlib.Nat.{add-zero}
 use native.Mathlib.Numerals.{add-one}
 use lib.Bits.{bitXor, xor-lt}
 use lib.Count.{ones}
@@ -20,13 +21,13 @@ use borrow.Author.Tests.{eqb-true, eq-eqb, ne-eqb}
 use Rattle.field.specs.declared.Gf.{Gf}
 use Rattle.field.specs.Field.{𝟎, _⊕_, ⊕-self-left, of, byte, of-inj, of-xor, byte-zero}
 use Rattle.series.specs.Series.{Series, O, K, O-at, _⊞_, _⊠_, ⊠-ring}
-use Rattle.series.specs.Shift.{zpow, cut, zpow-add, cut-suc, cut-zero}
+use Rattle.series.specs.Shift.{zpow, cut, zpow-add, cut-low, cut-high, cut-suc, cut-zero}
 use Rattle.series.specs.Degree.{below, below-O, below-cut-eq}
 use Rattle.series.specs.Array.{values}
 use Rattle.series.specs.Value.{value-zero}
 use Rattle.series.specs.Word.{entry, word, weight, entry-word, word-cut, weight-word, weight-O, zero-weight}
 use Rattle.series.specs.Decide.{holds}
-use Rattle.polynomial.specs.Polynomial.{row}
+use Rattle.polynomial.specs.Polynomial.{row, Clear}
 use Rattle.polynomial.specs.SyndromesZero.{zero?, zero-not}
 use Rattle.profile.specs.declared.Profile.{Profile}
 use Rattle.profile.specs.Definition.{capability, first-root}
@@ -55,14 +56,23 @@ pub added : (n i a : ℕ) (b c e : Series) → a ≡ i * n → c ≡ b ⊞ zpow 
 unfolding add
 added n i a b c e q h = h ∙ ap (λ k. b ⊞ zpow k ⊠ e) q
 
--- one symbol more
-pub added-one : (a q : ℕ) (b c d e : Series) → c ≡ b ⊞ zpow a ⊠ cut q e → d ≡ c ⊞ K (e q) ⊠ zpow (a + q)
-    → d ≡ b ⊞ zpow a ⊠ cut (q + 1) e
-added-one a q b c d e h one = rw (one, h, zpow-add a q, add-one q, cut-suc q e) (simp ⊠-ring)
+-- one symbol more; f is what was added before the first
+pub added-one : (a q : ℕ) (b c d e f : Series) → c ⊞ f ≡ b ⊞ zpow a ⊠ cut q e → d ≡ c ⊞ K (e q) ⊠ zpow (a + q)
+    → d ⊞ f ≡ b ⊞ zpow a ⊠ cut (q + 1) e
+added-one a q b c d e f h one =
+    let turned : (c ⊞ K (e q) ⊠ zpow (a + q)) ⊞ f ≡ (c ⊞ f) ⊞ K (e q) ⊠ zpow (a + q) = simp ⊠-ring in
+    ap (λ s. s ⊞ f) one ∙ turned ∙ rw (h, zpow-add a q, add-one q, cut-suc q e) (simp ⊠-ring)
 
 -- .. which is zero
-pub added-zero : (a q : ℕ) (b c e : Series) → c ≡ b ⊞ zpow a ⊠ cut q e → e q ≡ 𝟎 → c ≡ b ⊞ zpow a ⊠ cut (q + 1) e
-added-zero a q b c e h z = rw (cut-zero q e z) h
+pub added-zero : (a q : ℕ) (b c e f : Series) → c ⊞ f ≡ b ⊞ zpow a ⊠ cut q e → e q ≡ 𝟎
+    → c ⊞ f ≡ b ⊞ zpow a ⊠ cut (q + 1) e
+added-zero a q b c e f h z = rw (cut-zero q e z) h
+
+-- a part more, after f
+pub added-part : (b c d f g : Series) → c ≡ b ⊞ f → d ⊞ f ≡ c ⊞ g → d ≡ b ⊞ g
+added-part b c d f g h part =
+    let twice : d ≡ (d ⊞ f) ⊞ f = simp ⊠-ring in
+    twice ∙ rw (part, h) (simp ⊠-ring)
 
 add-none : (n i : ℕ) (b : Series) → b ≡ add n i O b
 unfolding add
@@ -87,6 +97,29 @@ pub counted-zero : (sum q : ℕ) (e : Series) → sum ≡ bit-weight q e → e q
 counted-zero sum q e h z =
     let none : ones (byte (e q)) ≡ 0 = ones-none _ (ap byte z ∙ byte-zero) in
     omega (arith, h, none, bit-weight-more q e)
+
+-- a part without a change
+module _ (from : ℕ) (e : Series) where
+  cut-clear : (to : ℕ) → from ≤ to → Clear e from to → cut from e ≡ cut to e
+  cut-clear to h none = fun-ext (λ q. go q (decLt q from) (decLt q to))
+    where
+      go : (q : ℕ) → Dec (q < from) → Dec (q < to) → cut from e q ≡ cut to e q
+      go q (yes l) m = cut-low from e q l ∙ sym (cut-low to e q (omega arith))
+      go q (no l) (yes m) = cut-high from e q (omega arith) ∙ sym (cut-low to e q m ∙ none q (omega arith) m)
+      go q (no l) (no m) = cut-high from e q (omega arith) ∙ sym (cut-high to e q (omega arith))
+
+  pub added-clear : (a to : ℕ) (b : Series) → from ≤ to → Clear e from to → b ⊞ zpow a ⊠ cut from e ≡ b ⊞ zpow a ⊠ cut to e
+  added-clear a to b h none = ap (λ s. b ⊞ zpow a ⊠ s) (cut-clear to h none)
+
+  pub counted-clear : (to : ℕ) → from ≤ to → Clear e from to → bit-weight from e ≡ bit-weight to e
+  counted-clear to h none = go (to - from) to (omega arith) none
+    where
+      go : (d to : ℕ) → to ≡ from + d → Clear e from to → bit-weight from e ≡ bit-weight to e
+      go zero to is none = ap (λ k. bit-weight k e) (sym (is ∙ add-zero from))
+      go (suc d) to is none =
+          let last : to ≡ from + d + 1 = omega arith in
+          rw last (counted-zero (bit-weight from e) (from + d) e
+          (go d (from + d) refl (λ q l m. none q l (omega arith))) (none (from + d) (omega arith) (omega arith)))
 
 -- ---- verdicts
 

@@ -1,6 +1,6 @@
 // One stage of one subword, in a block that is lent: it is settled already, clean or attempted. What the promises speak
 // of stands in specs/SubwordDefinition.antt.
-ghost use Prim.Native.Nat.{_≤_, _<_};
+ghost use Prim.Native.Nat.{_+_, _≤_, _<_};
 ghost use mathlib.Core.Path.{_≡_};
 ghost use mathlib.Core.Bool.{true, false, _&&_};
 ghost use lib.Bits.{bitXor};
@@ -12,7 +12,7 @@ ghost use Rattle.series.specs.Series.{Series, K, _⊞_, _⊠_};
 ghost use Rattle.series.specs.Shift.{zpow, cut};
 ghost use Rattle.series.specs.Array.{bytes, values};
 ghost use Rattle.series.specs.Decide.{holds};
-ghost use Rattle.polynomial.specs.Polynomial.{row as Row};
+ghost use Rattle.polynomial.specs.Polynomial.{row as Row, Clear};
 ghost use Rattle.polynomial.specs.SyndromesZero.{zero?};
 ghost use Rattle.block.specs.Parts.{Fits};
 ghost use Rattle.settle.specs.Answer.{answer};
@@ -29,6 +29,9 @@ use profile::POSITIONS;
 use profile::Profile;
 use solver::Form;
 use solver::Solver;
+
+// How many symbols of a pattern are looked at together: five times as many are a whole one.
+const PART: usize = 51;
 
 // A subword after a stage. The verdict of one that is pending, not settled yet, is clean.
 pub struct StagedSubword {
@@ -67,7 +70,46 @@ fn change(k: usize, e: Gf, block: &mut [u8]) -> u16
     wrong_bits(received, corrected)
 }
 
-// The pattern is added to subword i: how many bits that changes. Most of its symbols are zero, and passed over.
+// Whether a pattern has no change from `from` to `to` - 1. No branch is taken in the loop, so that many symbols are
+// looked at at a time.
+fn clear(pattern: [Gf; POSITIONS], from: usize, to: usize) -> bool
+    requires { ⌜ to ≤ 255 ⌝ }
+    ensures { λ b. ⌜ (b ≡ true → Clear (values pattern) from to) ⌝ }
+{
+    let mut any: u8 = 0;
+    let mut q = from;
+    while q < to {
+        let e = pattern[q];
+        any = any | e.0;
+        q = q + 1;
+    }
+    any == 0
+}
+
+// The part of a pattern from `from` to `to` - 1 is added to the subword that begins at a: how many bits that changes.
+fn correct_part(a: usize, from: usize, to: usize, pattern: [Gf; POSITIONS], block: &mut [u8]) -> u16
+    requires { ⌜ (from ≤ to) × (to ≤ 255) × (a + to ≤ length (now block)) ⌝ }
+    ensures block { λ _. ⌜ bytes (now (block .exit)) ⊞ zpow a ⊠ cut from (values pattern)
+        ≡ bytes (now (block .entry)) ⊞ zpow a ⊠ cut to (values pattern) ⌝ }
+    ensures bits { λ b. ⌜ b + bit-weight from (values pattern) ≡ bit-weight to (values pattern) ⌝ }
+{
+    let mut bits: u16 = 0;
+    if clear(pattern, from, to) {
+        return bits;
+    }
+    let mut q = from;
+    while q < to {
+        let e = pattern[q];
+        if !e.is_zero() {
+            bits = bits + change(a + q, e, block);
+        }
+        q = q + 1;
+    }
+    bits
+}
+
+// The pattern is added to subword i: how many bits that changes. Most symbols of a pattern are zero, and so are most
+// parts of one with few changes.
 fn correct(p: Profile, i: usize, pattern: [Gf; POSITIONS], block: &mut [u8]) -> u16
     requires { ⌜ Fits p (now block) × (i < p .subwords) ⌝ }
     ensures block { λ _. ⌜ bytes (now (block .exit)) ≡
@@ -78,14 +120,11 @@ fn correct(p: Profile, i: usize, pattern: [Gf; POSITIONS], block: &mut [u8]) -> 
     let a = i * n;
     let mut bits: u16 = 0;
     let mut q: usize = 0;
-    while q < n {
-        let e = pattern[q];
-        if !e.is_zero() {
-            bits = bits + change(a + q, e, block);
-        }
-        q = q + 1;
+    while q + PART <= n {
+        bits = bits + correct_part(a, q, q + PART, pattern, block);
+        q = q + PART;
     }
-    bits
+    bits + correct_part(a, q, n, pattern, block)
 }
 
 // What an attempt has brought is taken: the block is corrected if the subword is settled.

@@ -3,7 +3,7 @@ use Prim.Native.Nat.{_-_}
 use mathlib.Core.Path.{_≡_}
 use native.Mathlib.Omega.{arith}
 use borrow.Author.Tests.{eqb-true}
-use Rattle.polynomial.specs.Polynomial.{poly, Clear, clear-more}
+use Rattle.polynomial.specs.Polynomial.{poly, poly-at, Clear, clear-more}
 use borrow.Author.Needs.{needs}
 use Rattle.polynomial.proofs.clear.Statement.{statement}
 use Rattle.polynomial.proofs.clear.Tie as tie
@@ -27,7 +27,10 @@ loop-less : tie.Need-loop-less Inv-loop μ-loop
 loop-less c = search needs
 
 loop-again : tie.Need-loop-again Inv-loop μ-loop
-loop-again c = clear-more _ _ _ _ (omega arith) (c .before .before .before .loop .inv)
+loop-again c =
+    let at-loop = c .before .before .before in
+    let given = at-loop .before in
+    clear-more _ _ _ _ _ (poly-at (given .args .t1) (at-loop .loop .i) (omega arith)) (at-loop .loop .inv)
 
 returns : tie.Need-returns Inv-loop μ-loop
 returns c e k l h = c .before .loop .inv (eqb-true _ _ e) k l (omega arith)
