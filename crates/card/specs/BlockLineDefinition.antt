@@ -19,7 +19,8 @@ use Rattle.listing.specs.Definition.{ok-line, refused-line}
 use Rattle.card.specs.declared.section.Section.{Section}
 use Rattle.card.specs.declared.section.Section.the-variants.{Size, Bytes, Count, Block, End, Over}
 
--- its number and `ok`, the last stage, the changed symbols and the changed bits; or `refused` and the number of the refusal
+-- its number and `ok`, the last stage, the changed symbols and the changed bits; or `refused` and the number of the
+-- refusal
 abbrev pub line : ℕ → Result → List ℕ
 line i (read p s x) = ok-line i (x .last) (x .changed) (x .bits)
 line i (refused q) = refused-line i (number-of q)

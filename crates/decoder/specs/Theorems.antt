@@ -8,7 +8,7 @@
 --   Alike f g x e k a c   the readings a and c end alike, but for the solvers: each stands at the end of the rounds of
 --                     its subword, which x says, in its form
 --
--- Proved: an accepted block is a codeword, always (read-accepts, read-codeword), and its report counts what was changed,
+-- Proved: an accepted block is a codeword, always (read-accepts, read-codeword), and its report counts the changed
 -- symbols and bits (read-reports); a block with right sizes is decoded as staged decoding says (reading-is,
 -- extraction-is); a written block is restored under the condition of FORMAT 6.11 (read-restores), and one that was not
 -- touched always (read-written); the answer is 8 exactly if decoding fails (read-fails), where no mistake is made

@@ -103,7 +103,8 @@ pub listed-parts : (f : ℕ → Line) (r k w : ℕ) (a b c d : List ℕ) → len
 listed-parts f r k w a b c d long head lines block bits =
     sym (take-all 45 d (omega arith))
     ∙ bits
-    ∙ ap (λ l. l ++ bits-numbers 8 f) (block ∙ ap (λ l. l ++ two-bytes w) (lines ∙ ap (λ l. l ++ lines-numbers 8 f) head))
+    ∙ ap (λ l. l ++ bits-numbers 8 f)
+    (block ∙ ap (λ l. l ++ two-bytes w) (lines ∙ ap (λ l. l ++ lines-numbers 8 f) head))
 
 -- ---- filling a buffer
 

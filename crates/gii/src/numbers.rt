@@ -113,11 +113,11 @@ fn put_bits(lines: [Line; SUBWORDS], list: &mut [u8])
     requires { ⌜ 45 ≤ length (now list) ⌝ }
     ensures { λ _. ⌜ take 45 (now (list .exit)) ≡ take 29 (now (list .entry)) ++ bits-numbers 8 (says lines) ⌝ }
 {
-    let mut i: usize = 0;
-    while i < SUBWORDS {
-        let l = lines[i];
-        put_two(l.bits, 29 + 2 * i, list);
-        i = i + 1;
+    let mut k: usize = 0;
+    while k < SUBWORDS {
+        let l = lines[k];
+        put_two(l.bits, 29 + 2 * k, list);
+        k = k + 1;
     }
 }
 

@@ -2,8 +2,8 @@
 --
 -- Proved: the block is a codeword (accepted-codeword), and as received past its end (accepted-past); the count of a
 -- line is the number of positions where received and decoded symbol differ (accepted-count), its bits are the bits in
--- which they do (accepted-line-bits), none if it is clean (clean-bits), and the changed symbols and bits are the sums of
--- these (accepted-changed, accepted-bits); the last stage is at most v (accepted-last). The rounds of a corrected
+-- which they do (accepted-line-bits), none if it is clean (clean-bits), and the changed symbols and bits are the sums
+-- of these (accepted-changed, accepted-bits); the last stage is at most v (accepted-last). The rounds of a corrected
 -- subword, joined, are syndromes that are settled, at the stage of its line, by what the decoded subword differs by
 -- from the received one (accepted-pattern); a clean one has none (clean-rounds). Lines that are no subword's are clean
 -- (accepted-line-past). Where every subword is settled no line has more than 8 × n bits (settled-bits).
@@ -23,7 +23,7 @@ use Rattle.code.specs.Definition.{subword, Codeword}
 use Rattle.settling.specs.Settle.{settle-one, settle-cong}
 use Rattle.staged_decoding.specs.Definition as staged
 use Rattle.staged_decoding.specs.Definition.{total, Verdict, clean, corrected, count-of, stage-of, Line}
-use Rattle.staged_decoding.specs.Definition.{clean-line, bit-weight, line-by, settle-at, Progress, start, line-at}
+use Rattle.staged_decoding.specs.Definition.{clean-line, bit-weight, settle-at, Progress, start, line-at}
 use Rattle.staged_decoding.specs.Definition.{line-rounds, extend, stages, Report, report, accepted, decode}
 use Rattle.staged_decoding.specs.Definition.{differences, bit-differences}
 use Rattle.staged_decoding.specs.Count.{total-cong}
@@ -31,7 +31,8 @@ use Rattle.staged_decoding.specs.Stage.{verdict-at-is, stage-past, stage
 use Rattle.staged_decoding.specs.Rounds.{rounds-joined}
 use Rattle.staged_decoding.specs.Course.{before-stage, after-stage, Accepts, accepted-course}
 use Rattle.staged_decoding.specs.Course.{settled-course}
-use Rattle.staged_decoding.specs.Differences.{differences-weight, bit-differences-weight, bit-weight-zeros, bit-weight-le}
+use Rattle.staged_decoding.specs.Differences.{differences-weight, bit-differences-weight}
+use Rattle.staged_decoding.specs.Differences.{bit-weight-zeros, bit-weight-le}
 use Rattle.staged_decoding.specs.Sound.{Settled, settled-line}
 
 pub accepted-codeword : (p : Profile) (y d : Series) (x : Report) → decode p y ≡ accepted d x → Codeword p d

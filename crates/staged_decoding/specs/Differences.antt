@@ -2,8 +2,9 @@
 --
 -- Proved: subwords and syndromes of a sum (subword-⊞, syndrome-sum-block); the differences of two blocks are the
 -- changes of their sum (differences-weight); blocks with the same symbols have none (differences-none). The same bit by
--- bit: bit-differences-weight, bit-differences-none. What the line by a pattern says depends on its symbols alone (line-by-cong), its count
--- and its bits are the differences (line-by-differs), and of n symbols it has at most 8 × n bits (bit-weight-le).
+-- bit: bit-differences-weight, bit-differences-none. A pattern's bits are counted symbol by symbol (bit-weight-more),
+-- at most eight of each (bit-weight-le). The line by a pattern is a matter of its symbols (line-by-cong), and says the
+-- differences (line-by-differs).
 use Prim.Native.Nat.{ℕ, zero, suc, _+_, _*_, _≤_, _<_}
 use mathlib.Core.Path.{_≡_, sym, ap, ap₂, _∙_}
 use mathlib.Core.Bool.{Bool, not}

@@ -1,9 +1,9 @@
 -- A stage of one subword.
 --
--- Proved: a pattern added symbol by symbol (added, added-one, added-zero), and its bits counted (differ-by,
--- counted-one, counted-zero); what verdicts say (clean-is, corrected-is); what becomes of a subword that no pattern settles
--- (took-none), that one settles (took-some), and that is clean (took-clean); with no change at stage 0 the row is zero
--- (no-change).
+-- Proved: a pattern added symbol by symbol and part by part (added, added-one, added-zero, added-part, added-clear),
+-- and its bits counted (differ-by, counted-one, counted-zero, counted-clear); what verdicts say (clean-is, corrected-is);
+-- what becomes of a subword that no pattern settles (took-none), that one settles (took-some), and that is clean
+-- (took-clean); with no change at stage 0 the row is zero (no-change).
 use Prim.Native.Nat.{ℕ, zero, suc, _+_, _-_, _*_, _≤_, _<_}
 use mathlib.Core.Path.{_≡_, refl, sym, ap, ap₂, _∙_, fun-ext, subst}
 use mathlib.Core.Logic.{_≢_, by-cases}
@@ -21,7 +21,7 @@ use borrow.Author.Tests.{eqb-true, eq-eqb, ne-eqb}
 use Rattle.field.specs.declared.Gf.{Gf}
 use Rattle.field.specs.Field.{𝟎, _⊕_, ⊕-self-left, of, byte, of-inj, of-xor, byte-zero}
 use Rattle.series.specs.Series.{Series, O, K, O-at, _⊞_, _⊠_, ⊠-ring}
-use Rattle.series.specs.Shift.{zpow, cut, zpow-add, cut-low, cut-high, cut-suc, cut-zero}
+use Rattle.series.specs.Shift.{zpow, cut, zpow-add, cut-suc, cut-zero}
 use Rattle.series.specs.Degree.{below, below-O, below-cut-eq}
 use Rattle.series.specs.Array.{values}
 use Rattle.series.specs.Value.{value-zero}
@@ -98,28 +98,25 @@ counted-zero sum q e h z =
     let none : ones (byte (e q)) ≡ 0 = ones-none _ (ap byte z ∙ byte-zero) in
     omega (arith, h, none, bit-weight-more q e)
 
+-- what no step changes is the same in the end
+stays : {A : Type 0} (f : ℕ → A) (from to : ℕ) → from ≤ to → ((q : ℕ) → from ≤ q → q < to → f q ≡ f (q + 1))
+    → f from ≡ f to
+stays f from to h step = go (to - from) to (omega arith) step
+  where
+    go : (d to : ℕ) → to ≡ from + d → ((q : ℕ) → from ≤ q → q < to → f q ≡ f (q + 1)) → f from ≡ f to
+    go zero to is step = ap f (sym (is ∙ add-zero from))
+    go (suc d) to is step =
+        let last : from + d + 1 ≡ to = omega arith in
+        go d (from + d) refl (λ q l m. step q l (omega arith)) ∙ step (from + d) (omega arith) (omega arith) ∙ ap f last
+
 -- a part without a change
-module _ (from : ℕ) (e : Series) where
-  cut-clear : (to : ℕ) → from ≤ to → Clear e from to → cut from e ≡ cut to e
-  cut-clear to h none = fun-ext (λ q. go q (decLt q from) (decLt q to))
-    where
-      go : (q : ℕ) → Dec (q < from) → Dec (q < to) → cut from e q ≡ cut to e q
-      go q (yes l) m = cut-low from e q l ∙ sym (cut-low to e q (omega arith))
-      go q (no l) (yes m) = cut-high from e q (omega arith) ∙ sym (cut-low to e q m ∙ none q (omega arith) m)
-      go q (no l) (no m) = cut-high from e q (omega arith) ∙ sym (cut-high to e q (omega arith))
+module _ (from to : ℕ) (e : Series) (h : from ≤ to) (none : Clear e from to) where
+  pub added-clear : (a : ℕ) (b : Series) → b ⊞ zpow a ⊠ cut from e ≡ b ⊞ zpow a ⊠ cut to e
+  added-clear a b =
+      stays (λ q. b ⊞ zpow a ⊠ cut q e) from to h (λ q l m. ap (λ s. b ⊞ zpow a ⊠ s) (sym (cut-zero q e (none q l m))))
 
-  pub added-clear : (a to : ℕ) (b : Series) → from ≤ to → Clear e from to → b ⊞ zpow a ⊠ cut from e ≡ b ⊞ zpow a ⊠ cut to e
-  added-clear a to b h none = ap (λ s. b ⊞ zpow a ⊠ s) (cut-clear to h none)
-
-  pub counted-clear : (to : ℕ) → from ≤ to → Clear e from to → bit-weight from e ≡ bit-weight to e
-  counted-clear to h none = go (to - from) to (omega arith) none
-    where
-      go : (d to : ℕ) → to ≡ from + d → Clear e from to → bit-weight from e ≡ bit-weight to e
-      go zero to is none = ap (λ k. bit-weight k e) (sym (is ∙ add-zero from))
-      go (suc d) to is none =
-          let last : to ≡ from + d + 1 = omega arith in
-          rw last (counted-zero (bit-weight from e) (from + d) e
-          (go d (from + d) refl (λ q l m. none q l (omega arith))) (none (from + d) (omega arith) (omega arith)))
+  pub counted-clear : bit-weight from e ≡ bit-weight to e
+  counted-clear = stays (λ q. bit-weight q e) from to h (λ q l m. counted-zero _ q e refl (none q l m))
 
 -- ---- verdicts
 

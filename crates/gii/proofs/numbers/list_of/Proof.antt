@@ -36,8 +36,8 @@ returns c =
     let with-lines = at-put-lines .put-lines .last .1 .0 in
     let with-block = at-put-two .put-two .last .1 .1 .0 in
     listed-parts (says (given .lines)) (given .last) (given .changed) (given .bits) (head .head .result) with-lines
-    with-block (at-put-bits .put-bits .last .1 .0) (search needs) (head .head .ensures) (at-put-lines .put-lines .ensures) (at-put-two .put-two .ensures)
-    (at-put-bits .put-bits .ensures)
+    with-block (at-put-bits .put-bits .last .1 .0) (search needs) (head .head .ensures)
+    (at-put-lines .put-lines .ensures) (at-put-two .put-two .ensures) (at-put-bits .put-bits .ensures)
 
 pub list-of-spec : {M : Type 1} → statement M
 list-of-spec =

@@ -1,4 +1,4 @@
--- The changed bits of the first i lines stand.
+-- The changed bits of the first k lines stand.
 use Prim.Native.Nat.{_+_, _-_, _*_, _≤_}
 use mathlib.Core.Path.{_≡_, refl}
 use mathlib.Core.List.{_++_}
@@ -12,12 +12,12 @@ use Rattle.gii.proofs.numbers.put_bits.Statement.{statement}
 use Rattle.gii.proofs.numbers.put_bits.Tie as tie
 
 abbrev Inv-loop : tie.InvT-loop
-Inv-loop list₀ lines i₀ list i =
-    (i ≤ 8) × (length lines ≡ 8) × (length list ≡ length list₀)
-    × (take (29 + 2 * i) list ≡ take 29 list₀ ++ bits-numbers i (says lines))
+Inv-loop list₀ lines k₀ list k =
+    (k ≤ 8) × (length lines ≡ 8) × (length list ≡ length list₀)
+    × (take (29 + 2 * k) list ≡ take 29 list₀ ++ bits-numbers k (says lines))
 
 abbrev μ-loop : tie.MeasureT-loop
-μ-loop list₀ lines i₀ list i = 8 - i
+μ-loop list₀ lines k₀ list k = 8 - k
 
 loop-holds : tie.Need-loop-holds Inv-loop μ-loop
 loop-holds c =
@@ -41,8 +41,8 @@ put-two-requires c κs =
     let at-loop = c .before .before .before in
     omega (arith, at-loop .loop .inv .2, at-loop .before .before .pre)
 
-add-i : tie.Need-add-i Inv-loop μ-loop
-add-i c = search needs
+add-k : tie.Need-add-k Inv-loop μ-loop
+add-k c = search needs
 
 loop-less : tie.Need-loop-less Inv-loop μ-loop
 loop-less c = search needs
@@ -56,7 +56,7 @@ loop-again c =
       omega arith,
       now .inv .1,
       omega (arith, now .inv .2, c .before .list .given),
-      bits-more (given .args .t1) (take 29 (given .args .list .now)) (now .list) _ (now .i) _ _
+      bits-more (given .args .t1) (take 29 (given .args .list .now)) (now .list) _ (now .k) _ _
           (omega (arith, now .inv .1)) (now .inv .3) refl (at-put-two .put-two .ensures),
     )
 
@@ -66,8 +66,8 @@ same-length c = search needs
 returns : tie.Need-returns Inv-loop μ-loop
 returns c =
     let end = c .before .loop in
-    let given = c .before .before .before in
-    bits-all (says (given .args .t1)) (take 29 (given .args .list .now)) (end .list) (end .i) (omega arith) (end .inv .3)
+    let given = c .before .before .before .args in
+    bits-all (says (given .t1)) (take 29 (given .list .now)) (end .list) (end .k) (omega arith) (end .inv .3)
 
 pub put-bits-spec : {M : Type 1} → statement M
 put-bits-spec =
@@ -81,7 +81,7 @@ put-bits-spec =
     mul-put-two
     add-put-two
     put-two-requires
-    add-i
+    add-k
     loop-less
     loop-again
     same-length

@@ -71,8 +71,8 @@ same-length c = search needs
 returns : tie.Need-returns Inv-loop μ-loop
 returns c =
     let end = c .before .loop in
-    let given = c .before .before .before in
-    lines-all (says (given .args .t1)) (take 3 (given .args .list .now)) (end .list) (end .i) (omega arith) (end .inv .3)
+    let given = c .before .before .before .args in
+    lines-all (says (given .t1)) (take 3 (given .list .now)) (end .list) (end .i) (omega arith) (end .inv .3)
 
 pub put-lines-spec : {M : Type 1} → statement M
 put-lines-spec =

@@ -70,7 +70,8 @@ loop-again c =
       omega arith,
       now .inv .1,
       omega (arith, c .before .changes .ensures .1, now .inv .2),
-      bits-few (given .args .t1) (given .args .m) (now .i) (now .bits) _ (given .pre .1) (omega arith) low (now .inv .3),
+      bits-few (given .args .t1) (given .args .m) (now .i) (now .bits) _ (given .pre .1) (omega arith) low
+          (now .inv .3),
       sum-more (λ l. count-of (l .verdict)) (given .args .t1) (now .changed) (now .i) _ _ low (now .inv .4)
           (c .before .changes .ensures .0),
       sum-more (λ l. l .bits) (given .args .t1) (now .bits) (now .i) _ _ low (now .inv .5) refl,

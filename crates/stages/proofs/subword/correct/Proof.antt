@@ -1,6 +1,6 @@
 -- Part after part is added, and what each changes counted.
 use Prim.Native.Nat.{_+_, _-_, _*_, _≤_}
-use mathlib.Core.Path.{_≡_, refl, sym, ap, _∙_}
+use mathlib.Core.Path.{_≡_, refl, sym}
 use native.Mathlib.Omega.{arith}
 use lib.ListN.{length}
 use Rattle.series.specs.Series.{_⊞_, _⊠_}
@@ -96,8 +96,13 @@ add-result c =
     let given = at-loop .before .before .before in
     let few = bit-weight-le (given .args .p .length) (values (given .args .pattern)) in
     record {
-      fits = omega (arith, at-loop .loop .inv .3, at-part .correct-part2 .ensures .1, few,
-      given .pre .0 .valid .length .1);
+      fits = omega (
+        arith,
+        at-loop .loop .inv .3,
+        at-part .correct-part2 .ensures .1,
+        few,
+        given .pre .0 .valid .length .1,
+      );
     }
 
 same-length : tie.Need-same-length Inv-loop μ-loop

@@ -37,8 +37,8 @@ returns c =
     let given = at-clear .before .before in
     let e = values (given .args .t4) in
     let none = at-clear .clear .ensures (c .if1 .taken) in (
-      added-clear (given .args .from) e (given .args .a) (given .args .to) _ (given .pre .0) none,
-      zero-add _ ∙ counted-clear (given .args .from) e (given .args .to) (given .pre .0) none,
+      added-clear (given .args .from) (given .args .to) e (given .pre .0) none (given .args .a) _,
+      zero-add _ ∙ counted-clear (given .args .from) (given .args .to) e (given .pre .0) none,
     )
 
 loop-holds : tie.Need-loop-holds Inv-loop μ-loop
