@@ -1,9 +1,9 @@
 -- A stage of one subword.
 --
 -- Proved: a pattern added symbol by symbol and part by part (added, added-one, added-zero, added-part, added-clear),
--- and its bits counted (differ-by, counted-one, counted-zero, counted-clear); what verdicts say (clean-is, corrected-is);
--- what becomes of a subword that no pattern settles (took-none), that one settles (took-some), and that is clean
--- (took-clean); with no change at stage 0 the row is zero (no-change).
+-- and its bits counted (differ-by, counted-one, counted-zero, counted-clear); what verdicts say (clean-is,
+-- corrected-is); what becomes of a subword that no pattern settles (took-none), that one settles (took-some), and that
+-- is clean (took-clean); with no change at stage 0 the row is zero (no-change).
 use Prim.Native.Nat.{ℕ, zero, suc, _+_, _-_, _*_, _≤_, _<_}
 use mathlib.Core.Path.{_≡_, refl, sym, ap, ap₂, _∙_, fun-ext, subst}
 use mathlib.Core.Logic.{_≢_, by-cases}
