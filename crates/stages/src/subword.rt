@@ -30,7 +30,7 @@ use profile::Profile;
 use solver::Form;
 use solver::Solver;
 
-// How many symbols of a pattern are looked at together: five times as many are a whole one.
+// The symbols of a part of a pattern; five parts are a whole one.
 const PART: usize = 51;
 
 // A subword after a stage. The verdict of one that is pending, not settled yet, is clean.
@@ -71,7 +71,7 @@ fn change(k: usize, e: Gf, block: &mut [u8]) -> u16
 }
 
 // Whether a pattern has no change from `from` to `to` - 1. No branch is taken in the loop, so that many symbols are
-// looked at at a time.
+// looked at together.
 fn clear(pattern: [Gf; POSITIONS], from: usize, to: usize) -> bool
     requires { ⌜ to ≤ 255 ⌝ }
     ensures { λ b. ⌜ (b ≡ true → Clear (values pattern) from to) ⌝ }
@@ -93,10 +93,10 @@ fn correct_part(a: usize, from: usize, to: usize, pattern: [Gf; POSITIONS], bloc
         ≡ bytes (now (block .entry)) ⊞ zpow a ⊠ cut to (values pattern) ⌝ }
     ensures bits { λ b. ⌜ b + bit-weight from (values pattern) ≡ bit-weight to (values pattern) ⌝ }
 {
-    let mut bits: u16 = 0;
     if clear(pattern, from, to) {
-        return bits;
+        return 0;
     }
+    let mut bits: u16 = 0;
     let mut q = from;
     while q < to {
         let e = pattern[q];
@@ -108,8 +108,8 @@ fn correct_part(a: usize, from: usize, to: usize, pattern: [Gf; POSITIONS], bloc
     bits
 }
 
-// The pattern is added to subword i: how many bits that changes. Most symbols of a pattern are zero, and so are most
-// parts of one with few changes.
+// The pattern is added to subword i: how many bits that changes. It goes by parts, since most parts of a pattern with
+// few changes have none.
 fn correct(p: Profile, i: usize, pattern: [Gf; POSITIONS], block: &mut [u8]) -> u16
     requires { ⌜ Fits p (now block) × (i < p .subwords) ⌝ }
     ensures block { λ _. ⌜ bytes (now (block .exit)) ≡
