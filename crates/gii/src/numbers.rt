@@ -91,8 +91,7 @@ fn head(last: u8, changed: u16) -> [u8; REPORT]
 {
     let mut list = [0u8; REPORT];
     list[0] = last;
-    list[1] = (changed / 256) as u8;
-    list[2] = (changed % 256) as u8;
+    put_two(changed, 1, &mut list);
     list
 }
 
