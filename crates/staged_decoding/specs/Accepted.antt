@@ -3,10 +3,11 @@
 -- Proved: the block is a codeword (accepted-codeword), and as received past its end (accepted-past); the count of a
 -- line is the number of positions where received and decoded symbol differ (accepted-count), its bits are the bits in
 -- which they do (accepted-line-bits), none if it is clean (clean-bits), and the changed symbols and bits are the sums
--- of these (accepted-changed, accepted-bits); the last stage is at most v (accepted-last). The rounds of a corrected
--- subword, joined, are syndromes that are settled, at the stage of its line, by what the decoded subword differs by
--- from the received one (accepted-pattern); a clean one has none (clean-rounds). Lines that are no subword's are clean
--- (accepted-line-past). Where every subword is settled no line has more than 8 × n bits (settled-bits).
+-- of these (accepted-changed, accepted-bits); a line has at most 2,040 bits, and the report 16,320 (accepted-few); the
+-- last stage is at most v (accepted-last). The rounds of a corrected subword, joined, are syndromes that are settled,
+-- at the stage of its line, by what the decoded subword differs by from the received one (accepted-pattern); a clean
+-- one has none (clean-rounds). Lines that are no subword's are clean (accepted-line-past). Where every subword is
+-- settled no line has more than 8 × n bits (settled-bits).
 use Prim.Native.Nat.{ℕ, zero, suc, _*_, _≤_, _<_}
 use mathlib.Core.Path.{_≡_, refl, sym, ap, _∙_}
 use mathlib.Core.List.{[]}
@@ -26,7 +27,7 @@ use Rattle.staged_decoding.specs.Definition.{total, Verdict, clean, corr
 use Rattle.staged_decoding.specs.Definition.{clean-line, bit-weight, settle-at, Progress, start, line-at}
 use Rattle.staged_decoding.specs.Definition.{line-rounds, extend, stages, Report, report, accepted, decode}
 use Rattle.staged_decoding.specs.Definition.{differences, bit-differences}
-use Rattle.staged_decoding.specs.Count.{total-cong}
+use Rattle.staged_decoding.specs.Count.{total-cong, total-le}
 use Rattle.staged_decoding.specs.Stage.{verdict-at-is, stage-past, stage-line-past}
 use Rattle.staged_decoding.specs.Rounds.{rounds-joined}
 use Rattle.staged_decoding.specs.Course.{before-stage, after-stage, Accepts, accepted-course}
@@ -127,6 +128,17 @@ module _ (p : Profile) (y d : Series) (x : Report) (e : decode p y ≡ accepted 
   accepted-bits =
       ap (λ (x : Report). x .bits) (a .says)
       ∙ total-cong (p .subwords) _ _ (λ i h. ap (λ (l : Line). l .bits) (sym (line-is i)) ∙ accepted-line-bits i h)
+
+  pub accepted-few : Valid p → ((i : ℕ) → i < p .subwords → x .line i .bits ≤ 2040) × (x .bits ≤ 16320)
+  accepted-few ok = (
+    λ i h. omega (arith, accepted-line-bits i h, few i),
+    omega (arith, accepted-bits, total-le (p .subwords) 2040 (bit-differences p y d) (λ i h. few i), ok .subwords .1),
+  )
+    where
+      few : (i : ℕ) → bit-differences p y d i ≤ 2040
+      few i =
+          let word = subword (p .length) (y ⊞ d) i in
+          omega (arith, bit-differences-weight p y d i, bit-weight-le (p .length) word, ok .length .1)
 
   last-is : x .last ≡ a .last
   unfolding report
