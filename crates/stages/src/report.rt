@@ -15,8 +15,8 @@ pub enum Verdict {
     Corrected(u8, u8),
 }
 
-// The line of a subword: how many of its bits were changed, and the last state of its solver, which is at its start if
-// the subword is clean.
+// The line of a subword: the verdict, how many of its bits were changed, and the last state of its solver, which is at
+// its start if the subword is clean.
 pub struct Line {
     pub verdict: Verdict,
     pub bits: u16,
