@@ -8,7 +8,7 @@ ghost use Rattle.listing.specs.Definition.{Appended, Printed};
 use crate::text::digits;
 use crate::text::put;
 
-// Room for a line, the longest of which has 27 bytes.
+// Room for a line, the longest of which has 25 bytes.
 pub const LINE: usize = 32;
 
 // Appends a number, and a text behind it.
