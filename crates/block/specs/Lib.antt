@@ -1,8 +1,6 @@
 -- Fits of Parts, and table of Table, are what the promises speak of; then CodewordDefinition.
 pub mod Table
 pub mod Parts
--- nested: NestedHorner proves the promises.
-pub mod NestedHorner
 -- received: ReceivedRows is what the promises speak of, with its laws.
 pub mod ReceivedRows
 -- codeword: CodewordDefinition is what the promises speak of; CodewordLaws proves them.

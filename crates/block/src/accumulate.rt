@@ -23,28 +23,14 @@ pub fn add_subword(p: Profile, block: &[u8], i: usize, word: &mut [u8])
     kernel::add(&block[a..e], &mut word[..n]);
 }
 
-// Adds c times subword i to the word, by a row of products.
-fn add_by_row(p: Profile, c: Gf, block: &[u8], i: usize, word: &mut [u8])
-    requires { ⌜ Fits p (now block) × (i < p .subwords) × (p .length ≤ length (now word)) ⌝ }
-    ensures { λ _. ⌜ bytes (now (word .exit)) ≡
-        bytes (now (word .entry)) ⊞ K (val c) ⊠ cut (p .length) (subword (p .length) (bytes (now (block .entry))) i) ⌝ }
-{
-    let n = p.length as usize;
-    let row = kernel::product_row(c);
-    let a = i * n;
-    let e = a + n;
-    kernel::add_multiple(&row, &block[a..e], &mut word[..n]);
-}
-
-// c times subword i of a block is added to the word. Where c is one no row of products is made.
+// Adds c times subword i of a block to the word, whatever c is.
 pub fn add_multiple(p: Profile, c: Gf, block: &[u8], i: usize, word: &mut [u8])
     requires { ⌜ Fits p (now block) × (i < p .subwords) × (p .length ≤ length (now word)) ⌝ }
     ensures { λ _. ⌜ bytes (now (word .exit)) ≡
         bytes (now (word .entry)) ⊞ K (val c) ⊠ cut (p .length) (subword (p .length) (bytes (now (block .entry))) i) ⌝ }
 {
-    if c.0 == 1 {
-        add_subword(p, block, i, word);
-        return;
-    }
-    add_by_row(p, c, block, i, word);
+    let n = p.length as usize;
+    let a = i * n;
+    let e = a + n;
+    kernel::add_multiple(c, &block[a..e], &mut word[..n]);
 }

@@ -1,17 +1,20 @@
 -- Words that are sums of multiples of subwords, as loops over subwords make them.
 --
---   combined n s c a r   the sum of c k times subword k of the block s, over the r subwords from a on
+--   combined n s c r   the sum of c k times subword k of the block s, over the first r subwords
 --
--- Proved: no subword and one subword more (combined-none, combined-more); from subword v on nothing is carried
+-- Proved: no subword and one subword more (combined-none, combined-more); a nested word is such a sum (combined-
+-- nested), and its factors are found one from the other (power-none, power-more); from subword v on nothing is carried
 -- (carried-none); a subword as a part of the bytes of a block (subword-part), and a multiple of it added to a word
 -- (add-part), or itself (sum-part).
 use Prim.Native.Nat.{ℕ, suc, _+_, _-_, _*_, _≤_, _<_}
 use mathlib.Core.Path.{_≡_, refl, sym, ap, ap₂, _∙_, fun-ext}
 use mathlib.Core.List.{List, _++_}
 use native.Mathlib.Decide.{decLt}
+use native.Mathlib.Nat.{zero-mul, suc-mul}
+use native.Mathlib.Numerals.{add-one}
 use native.Mathlib.Omega.{arith}
 use lib.ListN.{length, take, drop as drop-list, replicate}
-use Rattle.field.specs.Field.{F, 𝟏, _⊕_, _⊙_, ⊕-zero, of, of-zero}
+use Rattle.field.specs.Field.{F, 𝟏, α, _⊕_, _⊙_, ⊕-zero, pow, pow-zero, pow-add, of, of-zero}
 use Rattle.series.specs.Sum.{sum, sum-none, sum-suc}
 use Rattle.series.specs.Series.{Series, O, O-at, K, _⊞_, _⊠_, ⊞-at, K-⊠-at, one-⊠}
 use Rattle.series.specs.Shift.{cut, cut-none, cut-unique, cut-⊞, cut-K-⊠, drop, drop-at}
@@ -19,45 +22,52 @@ use Rattle.series.specs.Degree.{below-O, below-cut, below-cut-eq, below-K-⊠}
 use Rattle.series.specs.Array.{bytes, read-zeros}
 use Rattle.series.specs.Part.{read-take, read-drop, read-left, read-right, read-part}
 use Rattle.profile.specs.declared.Profile.{Profile}
-use Rattle.code.specs.Definition.{subword}
+use Rattle.code.specs.Definition.{subword, nested}
 use Rattle.code.specs.Triangle.{carried, carried-high}
 
-unfoldable pub combined : ℕ → Series → (ℕ → F) → ℕ → ℕ → Series
-combined n s c a r q = sum r (λ k. c (a + k) ⊙ subword n s (a + k) q)
+unfoldable pub combined : ℕ → Series → (ℕ → F) → ℕ → Series
+combined n s c r q = sum r (λ k. c k ⊙ subword n s k q)
 
-module _ (n : ℕ) (s : Series) (c : ℕ → F) (a : ℕ) where
-  combined-suc : (r : ℕ) → combined n s c a (suc r) ≡ combined n s c a r ⊞ K (c (a + r)) ⊠ subword n s (a + r)
+module _ (n : ℕ) (s : Series) (c : ℕ → F) where
+  combined-suc : (r : ℕ) → combined n s c (suc r) ≡ combined n s c r ⊞ K (c r) ⊠ subword n s r
   unfolding combined
   combined-suc r = fun-ext (λ q.
-      sum-suc r _ ∙ sym (⊞-at _ _ q ∙ ap (λ t. combined n s c a r q ⊕ t) (K-⊠-at (c (a + r)) (subword n s (a + r)) q)))
+      sum-suc r _ ∙ sym (⊞-at _ _ q ∙ ap (λ t. combined n s c r q ⊕ t) (K-⊠-at (c r) (subword n s r) q)))
 
   -- a loop begins with zeros
-  pub combined-none : (k r : ℕ) → k ≡ a → bytes (replicate r 0) ≡ cut n (combined n s c a (k - a))
+  pub combined-none : (r : ℕ) → bytes (replicate r 0) ≡ cut n (combined n s c 0)
   unfolding combined
-  combined-none k r h =
-      let e : k - a ≡ 0 = omega arith in
+  combined-none r =
       read-zeros of 0 of-zero r O
       ∙ cut-none O
-      ∙ sym
-      (ap (λ (r : ℕ). cut n (combined n s c a r)) e
-      ∙ ap (cut n) (fun-ext (λ q. sum-none _ ∙ sym (O-at q)))
-      ∙ below-cut-eq n O (below-O n))
+      ∙ sym (ap (cut n) (fun-ext (λ q. sum-none _ ∙ sym (O-at q))) ∙ below-cut-eq n O (below-O n))
 
   -- and goes on
-  pub combined-more : (k : ℕ) (x : F) (w v : Series) → a ≤ k → x ≡ c k → w ≡ cut n (combined n s c a (k - a))
+  pub combined-more : (k : ℕ) (x : F) (w v : Series) → x ≡ c k → w ≡ cut n (combined n s c k)
       → v ≡ w ⊞ K x ⊠ cut n (subword n s k)
-      → v ≡ cut n (combined n s c a (k + 1 - a))
-  combined-more k x w v h ex ew ev =
-      let e : k + 1 - a ≡ suc (k - a) = omega arith in
-      let f : a + (k - a) ≡ k = omega arith in
+      → v ≡ cut n (combined n s c (k + 1))
+  combined-more k x w v ex ew ev =
       ev
       ∙ ap₂ (λ (w : Series) (x : F). w ⊞ K x ⊠ cut n (subword n s k)) ew ex
       ∙ sym
-      (ap (λ (r : ℕ). cut n (combined n s c a r)) e
-      ∙ ap (cut n) (combined-suc (k - a))
+      (ap (λ (r : ℕ). cut n (combined n s c r)) (add-one k)
+      ∙ ap (cut n) (combined-suc k)
       ∙ cut-⊞ n _ _
-      ∙ ap (λ (t : Series). cut n (combined n s c a (k - a)) ⊞ t) (cut-K-⊠ n _ _)
-      ∙ ap (λ (i : ℕ). cut n (combined n s c a (k - a)) ⊞ K (c i) ⊠ cut n (subword n s i)) f)
+      ∙ ap (λ (t : Series). cut n (combined n s c k) ⊞ t) (cut-K-⊠ n _ _))
+
+-- with the powers of α^l as factors it is nested word l
+pub combined-nested : (p : Profile) (s : Series) (l : ℕ)
+    → combined (p .length) s (λ i. pow α (i * l)) (p .subwords) ≡ nested p s l
+unfolding combined nested
+combined-nested p s l = refl
+
+-- these factors, each α^l times the one before
+
+pub power-none : (l : ℕ) → 𝟏 ≡ pow α (0 * l)
+power-none l = rw (zero-mul, pow-zero)
+
+pub power-more : (i l : ℕ) (c s d : F) → c ≡ pow α (i * l) → s ≡ pow α l → d ≡ c ⊙ s → d ≡ pow α ((i + 1) * l)
+power-more i l c s d ec es ed = ed ∙ ap₂ _⊙_ ec es ∙ rw (add-one, suc-mul, pow-add)
 
 -- from subword v on zeros are carried
 pub carried-none : (p : Profile) (s : Series) (i r : ℕ) → p .nested ≤ i
@@ -78,11 +88,10 @@ pub subword-part : (n : ℕ) (b : List ℕ) (i : ℕ) → i * n + n ≤ length b
 subword-part n b i h = read-part of 0 of-zero (i * n) n b h ∙ ap (cut n) (sym (subword-drop n (bytes b) i))
 
 -- a multiple of subword i, added in the first n entries of w
-pub add-part : (n i k : ℕ) (b w y : List ℕ) (f c : F)
-    → f ≡ c → k ≡ n → i * n + n ≤ length b → n ≤ length w → length y ≡ n
-    → bytes y ≡ bytes (take n w) ⊞ K f ⊠ bytes (take k (drop-list (i * n) b))
+pub add-part : (n i k : ℕ) (b w y : List ℕ) (c : F) → k ≡ n → i * n + n ≤ length b → n ≤ length w → length y ≡ n
+    → bytes y ≡ bytes (take n w) ⊞ K c ⊠ bytes (take k (drop-list (i * n) b))
     → bytes (y ++ drop-list n w) ≡ bytes w ⊞ K c ⊠ cut n (subword n (bytes b) i)
-add-part n i k b w y f c ef ek hb hw ly e = fun-ext (λ q. go q (decLt q n) ∙ sym (⊞-at (bytes w) (K c ⊠ g) q))
+add-part n i k b w y c ek hb hw ly e = fun-ext (λ q. go q (decLt q n) ∙ sym (⊞-at (bytes w) (K c ⊠ g) q))
   where
     g : Series
     g = cut n (subword n (bytes b) i)
@@ -90,7 +99,7 @@ add-part n i k b w y f c ef ek hb hw ly e = fun-ext (λ q. go q (decLt q n) ∙ 
     inside : bytes y ≡ bytes (take n w) ⊞ K c ⊠ g
     inside =
         e
-        ∙ ap₂ (λ (a : F) (r : Series). bytes (take n w) ⊞ K a ⊠ r) ef
+        ∙ ap (λ (r : Series). bytes (take n w) ⊞ K c ⊠ r)
         (ap (λ (k : ℕ). bytes (take k (drop-list (i * n) b))) ek ∙ subword-part n b i hb)
 
     go : (q : ℕ) → Dec (q < n) → bytes (y ++ drop-list n w) q ≡ bytes w q ⊕ (K c ⊠ g) q
@@ -113,5 +122,5 @@ pub sum-part : (n i k : ℕ) (b w y : List ℕ) → k ≡ n → i * n + n ≤ le
     → bytes y ≡ bytes (take n w) ⊞ bytes (take k (drop-list (i * n) b))
     → bytes (y ++ drop-list n w) ≡ bytes w ⊞ cut n (subword n (bytes b) i)
 sum-part n i k b w y ek hb hw ly e =
-    add-part n i k b w y 𝟏 𝟏 refl ek hb hw ly (e ∙ ap (λ (f : Series). bytes (take n w) ⊞ f) (sym (one-⊠ _)))
+    add-part n i k b w y 𝟏 ek hb hw ly (e ∙ ap (λ (f : Series). bytes (take n w) ⊞ f) (sym (one-⊠ _)))
     ∙ ap (λ (f : Series). bytes w ⊞ f) (one-⊠ _)

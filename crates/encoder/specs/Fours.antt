@@ -23,7 +23,7 @@ use Rattle.code.specs.Word.{systematic}
 use Rattle.divider.specs.ReedSolomonResidue.{residue, Residual, below-residue, residue-systematic}
 use Rattle.block.specs.Parts.{Fits, inside}
 use Rattle.code.specs.Combined.{carried-none}
-use Rattle.block.specs.NestedHorner.{prefix-zeros}
+use Rattle.kernel.specs.Copy.{prefix-zeros}
 use Rattle.encoder.specs.CarrySubword.{filled, Wrote, wrote-is}
 
 pub record Known (f n k : ℕ) (d r : List ℕ) : Type 0 where

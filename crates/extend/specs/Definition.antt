@@ -21,7 +21,7 @@ use Rattle.extend.specs.LagrangeDefinition.{flag, lagrange}
 -- for an unsettled subword i, b telling the unsettled ones, the equations of FORMAT 6.6 are solved by the syndrome of
 -- this word
 abbrev pub merged : Profile → (ℕ → Bool) → Series → ℕ → Series
-merged p b s i = combined (p .length) s (lagrange (p .subwords) b i) 0 (p .subwords)
+merged p b s i = combined (p .length) s (lagrange (p .subwords) b i) (p .subwords)
 
 abbrev pub extended : Profile → (a b : ℕ) → List Bool → Series → ℕ → Series → Series
 extended p a b o s i r = cond (flag o i) (window a b (syndrome-of p (merged p (flag o) s i)) r) r

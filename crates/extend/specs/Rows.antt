@@ -6,12 +6,11 @@
 -- the extended rows are the round's (extend-is). A loop over subwords makes `partly` (partly-none, partly-more); what
 -- is done for one subword makes `extended` (extended-no, extended-word). A word's syndromes are those of its remainder,
 -- in arrays (left-syndrome).
-use Prim.Native.Nat.{ℕ, _+_, _-_, _≤_, _<_}
+use Prim.Native.Nat.{ℕ, _+_, _≤_, _<_}
 use mathlib.Core.Path.{_≡_, refl, sym, ap, ap₂, _∙_, fun-ext}
 use mathlib.Core.Bool.{Bool, true, false, cond}
 use mathlib.Core.List.{List, []}
 use native.Mathlib.Decide.{decLt, ℕ-discrete}
-use native.Mathlib.Nat.{zero-add}
 use native.Mathlib.Omega.{arith}
 use lib.Dec.{ltb}
 use lib.ListN.{length, set, take}
@@ -49,10 +48,7 @@ merged-syndrome : (p : Profile) (b : ℕ → Bool) (s : Series) (i j : ℕ)
     ≡ sum (p .subwords) (λ k. lagrange (p .subwords) b i k ⊙ syndrome-of p (subword (p .length) s k) j)
 unfolding combined
 merged-syndrome p b s i j =
-    syndrome-sum (first-root p) (p .subwords) (p .length) (λ k. lagrange (p .subwords) b i (0 + k))
-    (λ k. subword (p .length) s (0 + k)) j
-    ∙ sum-cong (p .subwords) _ _ (λ k l.
-    ap (λ (k : ℕ). lagrange (p .subwords) b i k ⊙ syndrome-of p (subword (p .length) s k) j) (zero-add k))
+    syndrome-sum (first-root p) (p .subwords) (p .length) (lagrange (p .subwords) b i) (subword (p .length) s) j
 
 module _ (p : Profile) (ok : Valid p) (g : Progress) (i : ℕ) (h : i < p .subwords) where
   pub fresh-merged : open? g i ≡ true → (j : ℕ)

@@ -2,19 +2,21 @@
 --
 -- Proved: a list whose first i entries are those of another has its first i + 1 entries after one more store
 -- (copied-more). Where the first k entries of a list are written anew, it is what was written and the list from k on
--- (front); in a list of zeros, what was written alone (front-zeros).
-use Prim.Native.Nat.{ℕ, _+_, _<_}
+-- (front); in a list of zeros, what was written alone (front-zeros). The first entries of zeros are zeros
+-- (prefix-zeros).
+use Prim.Native.Nat.{ℕ, _+_, _≤_, _<_}
 use mathlib.Core.Path.{_≡_, sym, ap, ap₂, _∙_, fun-ext}
 use mathlib.Core.List.{List, _++_}
 use native.Mathlib.Decide.{ℕ-discrete}
 use native.Mathlib.Omega.{arith}
-use lib.ListN.{length, getD, set, replicate, drop as drop-list}
+use lib.ListN.{length, getD, set, take, replicate, length-replicate, drop as drop-list}
 use lib.Seq.{getD-set-same, getD-set-other}
 use Rattle.field.specs.Field.{of, of-zero}
 use Rattle.series.specs.Series.{Series, O, O-at, _⊞_, _⊠_, ⊠-ring}
 use Rattle.series.specs.Shift.{zpow, drop, cut, drop-at, cut-low, cut-none, cut-drop}
+use Rattle.series.specs.Degree.{below-O, below-cut-eq}
 use Rattle.series.specs.Array.{bytes, read-zeros}
-use Rattle.series.specs.Part.{read-left, read-right, read-drop}
+use Rattle.series.specs.Part.{read-left, read-right, read-drop, read-prefix}
 use Rattle.kernel.specs.Store.{cut-cong}
 
 pub copied-more : (to from : List ℕ) (i : ℕ) → i < length to → ((k : ℕ) → k < i → getD to k 0 ≡ getD from k 0)
@@ -48,6 +50,11 @@ front k y w f l e = cut-drop k X ∙ ap₂ (λ (s t : Series). s ⊞ zpow k ⊠ 
 
 pub zeros : (r : ℕ) → bytes (replicate r 0) ≡ O
 zeros r = read-zeros of 0 of-zero r O ∙ cut-none O
+
+pub prefix-zeros : (n r : ℕ) → n ≤ r → bytes (take n (replicate r 0)) ≡ O
+prefix-zeros n r h =
+    read-prefix of 0 of-zero n (replicate r 0) (omega (arith, length-replicate {A = ℕ} r 0)) ∙ ap (cut n) (zeros r)
+    ∙ below-cut-eq n O (below-O n)
 
 pub front-zeros : (k r : ℕ) (y : List ℕ) (f : Series) → length y ≡ k → bytes y ≡ cut k f
     → bytes (y ++ drop-list k (replicate r 0)) ≡ cut k f

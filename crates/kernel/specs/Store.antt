@@ -2,8 +2,9 @@
 --
 -- Proved: a store at j adds one term at z^j (bytes-set, bytes-add). A loop that writes g after the last coefficient of
 -- f, or adds a multiple of g, goes on by one coefficient (append-more, multiple-more), and what stands before is kept
--- (append-low). The first coefficients of a series are found by what they are (cut-cong) and in two parts (cut-join).
-use Prim.Native.Nat.{ℕ, _+_, _<_}
+-- (append-low); once all are added, so is the whole (multiple-all). The first coefficients of a series are found by
+-- what they are (cut-cong) and in two parts (cut-join).
+use Prim.Native.Nat.{ℕ, _+_, _≤_, _<_}
 use mathlib.Core.Path.{_≡_, sym, ap, ap₂, _∙_, fun-ext}
 use mathlib.Core.List.{List}
 use native.Mathlib.Decide.{ℕ-discrete}
@@ -11,12 +12,12 @@ use native.Mathlib.Numerals.{add-one}
 use native.Mathlib.Omega.{arith}
 use lib.Bits.{bitXor}
 use lib.ListN.{length, getD, set}
-use Rattle.field.specs.Field.{F, 𝟎, _⊕_, _⊙_, of, of-xor, zero-⊕, ⊕-zero, ⊕-self-left, ⊙-ring}
+use Rattle.field.specs.Field.{F, 𝟎, _⊕_, _⊙_, of, of-zero, of-xor, zero-⊕, ⊕-zero, ⊕-self-left, ⊙-ring}
 use Rattle.series.specs.Series.{Series, K, _⊞_, _⊠_, ⊞-at, K-⊠-at, ⊠-ring}
 use Rattle.series.specs.Shift.{zpow, drop, cut, zpow-add, zpow-at, zpow-low, zpow-one, zpow-other, drop-at}
 use Rattle.series.specs.Shift.{cut-low, cut-high, cut-none, cut-suc, cut-unique, cut-drop}
-use Rattle.series.specs.Degree.{below}
-use Rattle.series.specs.Array.{bytes, read-at, read-set-same, read-set-other}
+use Rattle.series.specs.Degree.{below, below-weaken, below-cut-eq}
+use Rattle.series.specs.Array.{bytes, below-read, read-at, read-set-same, read-set-other}
 
 pub bytes-set : (l : List ℕ) (j v : ℕ) → j < length l → bytes (set l j v) ≡ bytes l ⊞ K (bytes l j ⊕ of v) ⊠ zpow j
 bytes-set l j v h = fun-ext (λ i.
@@ -65,6 +66,12 @@ pub multiple-more : (l : List ℕ) (i v : ℕ) (a : F) (f g : Series) → i < le
     → of v ≡ bytes l i ⊕ a ⊙ g i
     → bytes (set l i v) ≡ f ⊞ K a ⊠ cut (i + 1) g
 multiple-more l i v a f g h e q = bytes-add l i v (a ⊙ g i) h q ∙ rw (e, add-one, cut-suc i g) (simp ⊠-ring)
+
+pub multiple-all : (i : ℕ) (a : F) (f : Series) (l : List ℕ) → length l ≤ i
+    → f ⊞ K a ⊠ cut i (bytes l) ≡ f ⊞ K a ⊠ bytes l
+multiple-all i a f l h =
+    ap (λ (g : Series). f ⊞ K a ⊠ g)
+    (below-cut-eq i _ (below-weaken (length l) i _ (below-read of 0 of-zero l) h))
 
 -- ---- the first coefficients
 

@@ -3,7 +3,7 @@ ghost use Prim.Native.Nat.{_+_, _≤_};
 ghost use mathlib.Core.Path.{_≡_};
 ghost use lib.ListN.{length};
 ghost use Rattle.field.specs.Field.{_⊕_, of, val};
-ghost use Rattle.series.specs.Series.{K, _⊞_, _⊠_};
+ghost use Rattle.series.specs.Series.{_⊞_, _⊠_};
 ghost use Rattle.series.specs.Shift.{zpow, cut};
 ghost use Rattle.series.specs.Degree.{below};
 ghost use Rattle.series.specs.Value.{value};
@@ -53,17 +53,4 @@ pub fn value(row: &[u8], word: &[u8]) -> Gf
         v = row[crate::byte::index(v)] ^ word[i];
     }
     Gf(v)
-}
-
-// Adds the row's factor times one word to another: one lookup a symbol.
-pub fn add_multiple(row: &[u8], from: &[u8], to: &mut [u8])
-    requires { ⌜ ProductRow (now row) × (length (now from) ≡ length (now to)) ⌝ }
-    ensures { λ _. ⌜ bytes (now (to .exit)) ≡
-        bytes (now (to .entry)) ⊞ K (factor (now (row .entry))) ⊠ bytes (now (from .entry)) ⌝ }
-{
-    let mut i: usize = 0;
-    while i < to.len() {
-        to[i] = to[i] ^ row[crate::byte::index(from[i])];
-        i += 1;
-    }
 }

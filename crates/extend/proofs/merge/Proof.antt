@@ -14,8 +14,7 @@ use Rattle.extend.proofs.merge.Tie as tie
 abbrev Inv-loop : tie.InvT-loop
 Inv-loop p pending block i m word₀ k₀ word k =
     (k ≤ m) × (length word ≡ 255)
-    × (bytes word
-    ≡ cut (p .length) (combined (p .length) (bytes block) (lagrange (p .subwords) (flag pending) i) 0 (k - 0)))
+    × (bytes word ≡ cut (p .length) (combined (p .length) (bytes block) (lagrange (p .subwords) (flag pending) i) k))
 
 abbrev μ-loop : tie.MeasureT-loop
 μ-loop p pending block i m word₀ k₀ word k = m - k
@@ -24,7 +23,7 @@ cast-m : tie.Need-cast-m Inv-loop μ-loop
 cast-m c = search needs
 
 loop-holds : tie.Need-loop-holds Inv-loop μ-loop
-loop-holds c = (search needs, refl, combined-none _ _ _ 0 0 255 refl)
+loop-holds c = (search needs, refl, combined-none _ _ _ 255)
 
 lagrange-requires : tie.Need-lagrange-requires Inv-loop μ-loop
 lagrange-requires c κs = c .before .before .before .before .pre .valid .subwords .1
@@ -55,7 +54,7 @@ loop-again c =
     let factor = at-lagrange .lagrange .ensures in (
       omega (arith, at-loop-test .loop-test .taken),
       omega (arith, c .word2 .given, now .inv .1),
-      combined-more _ _ _ 0 (now .k) _ _ _ (omega arith) factor (now .inv .2) (c .before .add-multiple .ensures),
+      combined-more _ _ _ (now .k) _ _ _ factor (now .inv .2) (c .before .add-multiple .ensures),
     )
 
 returns : tie.Need-returns Inv-loop μ-loop
@@ -63,10 +62,10 @@ returns c =
     let end = c .before .loop in
     let given = c .before .before .before .before .args in
     let p = given .p in
-    let e : end .k - 0 ≡ p .subwords = omega (arith, end .inv .0) in
+    let e : end .k ≡ p .subwords = omega (arith, end .inv .0) in
     end .inv .2
     ∙ ap (λ r. cut (p .length) (combined (p .length) (bytes (given .block .now))
-    (lagrange (p .subwords) (flag (given .pending)) (given .i)) 0 r)) e
+    (lagrange (p .subwords) (flag (given .pending)) (given .i)) r)) e
 
 pub merge-spec : {M : Type 1} → statement M
 merge-spec =

@@ -3,12 +3,11 @@ use Prim.Native.Nat.{_-_, _≤_}
 use mathlib.Core.Path.{_≡_, refl, sym, ap, _∙_}
 use native.Mathlib.Omega.{arith}
 use lib.ListN.{length, length-set}
-use Rattle.field.specs.Field.{F, 𝟏, _⊕_, of, of-zero, one-⊙}
+use Rattle.field.specs.Field.{F, 𝟏, _⊕_, of, one-⊙}
 use Rattle.series.specs.Series.{Series, K, _⊞_, _⊠_, one-⊠}
 use Rattle.series.specs.Shift.{cut}
-use Rattle.series.specs.Degree.{below-cut-eq, below-weaken}
-use Rattle.series.specs.Array.{bytes, read-at, below-read}
-use Rattle.kernel.specs.Store.{bytes-xor, multiple-none, multiple-more}
+use Rattle.series.specs.Array.{bytes, read-at}
+use Rattle.kernel.specs.Store.{bytes-xor, multiple-none, multiple-more, multiple-all}
 use borrow.Author.Needs.{needs}
 use Rattle.kernel.proofs.word.add.Statement.{statement}
 use Rattle.kernel.proofs.word.add.Tie as tie
@@ -55,9 +54,9 @@ returns : tie.Need-returns Inv-loop μ-loop
 returns c =
     let end = c .before .loop in
     let given = c .before .before in
-    let whole = below-cut-eq (end .q) _ (below-weaken (length (given .args .from .now)) (end .q) _
-    (below-read of 0 of-zero _) (omega (arith, given .pre))) in
-    end .inv .2 ∙ ap (λ (f : Series). bytes (given .args .to .now) ⊞ f) (one-⊠ _ ∙ whole)
+    end .inv .2
+    ∙ multiple-all (end .q) _ _ (given .args .from .now) (omega (arith, given .pre))
+    ∙ ap (λ (f : Series). bytes (given .args .to .now) ⊞ f) (one-⊠ _)
 
 pub add-spec : {M : Type 1} → statement M
 add-spec =
