@@ -6,24 +6,22 @@ ghost use Rattle.series.specs.Array.{bytes};
 ghost use Rattle.code.specs.Definition.{nested as Nested};
 ghost use Rattle.block.specs.Parts.{Fits};
 use field::Exponent;
-use field::Gf;
 use profile::POSITIONS;
 use profile::Profile;
 
-// Nested word l of a block (FORMAT 3.4). The factor of subword i is c = α^(i l), found before its symbols are walked:
-// α^l times that of the subword before.
+// Nested word l of a block (FORMAT 3.4). The factor of subword i, α^(i l), is found before its symbols are walked.
 pub fn nested_word(p: Profile, block: &[u8], l: usize) -> [u8; POSITIONS]
     requires { ⌜ Fits p (now block) × (l < p .nested) ⌝ }
     ensures { λ r. ⌜ bytes r ≡ cut (p .length) (Nested p (bytes (now (block .entry))) l) ⌝ }
 {
     let m = p.subwords as usize;
-    let step = Exponent(l).power();
     let mut word = [0u8; POSITIONS];
-    let mut c = Gf::ONE;
+    let mut e: usize = 0;
     let mut i: usize = 0;
     while i < m {
+        let c = Exponent(e).power();
         crate::accumulate::add_multiple(p, c, block, i, &mut word);
-        c = c.product(step);
+        e = e + l;
         i = i + 1;
     }
     word

@@ -10,11 +10,10 @@ use Prim.Native.Nat.{ℕ, suc, _+_, _-_, _*_, _≤_, _<_}
 use mathlib.Core.Path.{_≡_, refl, sym, ap, ap₂, _∙_, fun-ext}
 use mathlib.Core.List.{List, _++_}
 use native.Mathlib.Decide.{decLt}
-use native.Mathlib.Nat.{zero-mul, suc-mul}
 use native.Mathlib.Numerals.{add-one}
 use native.Mathlib.Omega.{arith}
 use lib.ListN.{length, take, drop as drop-list, replicate}
-use Rattle.field.specs.Field.{F, 𝟏, α, _⊕_, _⊙_, ⊕-zero, pow, pow-zero, pow-add, of, of-zero}
+use Rattle.field.specs.Field.{F, 𝟏, α, _⊕_, _⊙_, ⊕-zero, pow, of, of-zero}
 use Rattle.series.specs.Sum.{sum, sum-none, sum-suc}
 use Rattle.series.specs.Series.{Series, O, O-at, K, _⊞_, _⊠_, ⊞-at, K-⊠-at, one-⊠}
 use Rattle.series.specs.Shift.{cut, cut-none, cut-unique, cut-⊞, cut-K-⊠, drop, drop-at}
@@ -60,14 +59,6 @@ pub combined-nested : (p : Profile) (s : Series) (l : ℕ)
     → combined (p .length) s (λ i. pow α (i * l)) (p .subwords) ≡ nested p s l
 unfolding combined nested
 combined-nested p s l = refl
-
--- these factors, each α^l times the one before
-
-pub power-none : (l : ℕ) → 𝟏 ≡ pow α (0 * l)
-power-none l = rw (zero-mul, pow-zero)
-
-pub power-more : (i l : ℕ) (c s d : F) → c ≡ pow α (i * l) → s ≡ pow α l → d ≡ c ⊙ s → d ≡ pow α ((i + 1) * l)
-power-more i l c s d ec es ed = ed ∙ ap₂ _⊙_ ec es ∙ rw (add-one, suc-mul, pow-add)
 
 -- from subword v on zeros are carried
 pub carried-none : (p : Profile) (s : Series) (i r : ℕ) → p .nested ≤ i
