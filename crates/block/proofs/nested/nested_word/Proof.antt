@@ -48,8 +48,9 @@ add-e c =
     let given = at-loop .before .before .before in
     let now = at-loop .loop in
     let valid = given .pre .0 .valid in
-    let most : now .i ≤ 8 = omega (arith, now .inv .0, valid .subwords .1) in
-    record { fits = omega (arith, now .inv .2, mul-le-mul-right (given .args .l) most, given .pre .1, valid .nested .0) }
+    let few : now .i ≤ 8 = omega (arith, now .inv .0, valid .subwords .1) in
+    let most = mul-le-mul-right (given .args .l) few in
+    record { fits = omega (arith, now .inv .2, most, given .pre .1, valid .nested .0) }
 
 add-i : tie.Need-add-i Inv-loop μ-loop
 add-i c = search needs

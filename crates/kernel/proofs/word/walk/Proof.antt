@@ -85,7 +85,8 @@ returns c =
     let given = at-loop .before .before .before .before .before .before .before .before .before .before in
     end .inv .2
     ∙ multiple-all (end .j) _ _ (given .args .from .now) (omega (arith, given .pre))
-    ∙ ap (λ (a : F). bytes (given .args .to .now) ⊞ K a ⊠ bytes (given .args .from .now)) (sym (val-of (given .args .c)))
+    ∙ ap (λ (a : F). bytes (given .args .to .now) ⊞ K a ⊠ bytes (given .args .from .now))
+    (sym (val-of (given .args .c)))
 
 pub walk-spec : {M : Type 1} → statement M
 walk-spec =
