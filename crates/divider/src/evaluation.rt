@@ -70,8 +70,7 @@ fn roots(first: usize) -> [u8; 64]
 }
 
 // A step of Horner's rule at the 32 points from point i on: no table and no branch, so the compiler takes sixteen
-// products at a time. A product is a chain of eight steps that wait for one another, so two of them side by side take
-// hardly longer than one.
+// products at a time. The points stay, so their doubles are found once for all symbols.
 fn horner(x: &[u8], i: usize, v: [u8; 32], s: u8) -> [u8; 32]
     requires { ⌜ i + 32 ≤ length (now x) ⌝ }
     ensures { λ r. ⌜ bytes r ≡ cut 32 (λ j. bytes v j ⊙ bytes (now (x .entry)) (i + j) ⊕ of s) ⌝ }
@@ -79,7 +78,7 @@ fn horner(x: &[u8], i: usize, v: [u8; 32], s: u8) -> [u8; 32]
     let mut out = [0u8; 32];
     let mut j: usize = 0;
     while j < 32 {
-        out[j] = kernel::multiply(v[j], x[i + j]) ^ s;
+        out[j] = kernel::multiply(x[i + j], v[j]) ^ s;
         j += 1;
     }
     out

@@ -1,10 +1,9 @@
--- Products by the bits of a factor, from the top: by Horner's rule, or from the doubles of the other factor.
+-- Products by the bits of one factor, from the top, and the doubles of the other.
 --
 --   Times a m p   p is m times a, as field values
---   Twice a d     d is twice a
 --
--- Proved: a bit times a byte (pick-lt, of-pick); the first bit and the next one, by Horner's rule (times-first,
--- times-more) and from the doubles (pick-first, pick-more).
+-- Proved: a bit times a byte (pick-lt, of-pick); the first bit and the next one, which goes with half the double
+-- (times-first, times-more).
 use Prim.Native.Nat.{ℕ, _+_, _*_, _/_, _%_, _<_}
 use mathlib.Core.Path.{_≡_, sym, ap, ap₂, _∙_}
 use native.Mathlib.Decide.{ℕ-discrete}
@@ -12,13 +11,10 @@ use native.Mathlib.Nat.{one-mul, zero-mul}
 use native.Mathlib.Omega.{arith}
 use lib.Bits.{xor-shifted}
 use Rattle.field.specs.Field.{F, α, _⊕_, _⊙_, of, of-xor, of-zero, of-one, of-double, zero-⊕}
-use Rattle.field.specs.Field.{zero-⊙, one-⊙, ⊙-zero, ⊙-ring}
+use Rattle.field.specs.Field.{zero-⊙, one-⊙, ⊙-ring}
 
 abbrev pub Times : ℕ → ℕ → ℕ → Type 0
 Times a m p = of p ≡ of m ⊙ of a
-
-abbrev pub Twice : ℕ → ℕ → Type 0
-Twice a d = of d ≡ α ⊙ of a
 
 pub pick-lt : (t a : ℕ) → t < 2 → a < 256 → t * a < 256
 pick-lt t a h l = go (ℕ-discrete t 0)
@@ -43,38 +39,17 @@ last-bit m h =
     ∙ of-xor (m / 2 * 2) (m % 2)
     ∙ ap (λ (s : F). s ⊕ of (m % 2)) (ap of d ∙ of-double (m / 2) (omega arith))
 
--- one bit more, s being what the bits above it bring
-bit-more : (a m q t : ℕ) (s : F) → m < 256 → t ≡ m % 2 → s ≡ α ⊙ (of (m / 2) ⊙ of a) → of q ≡ s ⊕ of t ⊙ of a
+pub times-first : (a m p t : ℕ) → of p ≡ of 0 ⊕ of t ⊙ of a → t ≡ m → Times a m p
+times-first a m p t e h = e ∙ rw (h, of-zero) (zero-⊕ _)
+
+pub times-more : (a d k m p q t : ℕ) → m < 256 → k ≡ m / 2 → t ≡ m % 2 → of d ≡ α ⊙ of a → Times d k p
+    → of q ≡ of p ⊕ of t ⊙ of a
     → Times a m q
-bit-more a m q t s l low h e =
+times-more a d k m p q t l high low twice h e =
     e
-    ∙ ap₂ (λ (s : F) (b : ℕ). s ⊕ of b ⊙ of a) h low
+    ∙ ap₂ (λ (s : F) (b : ℕ). s ⊕ of b ⊙ of a) (h ∙ ap₂ (λ (b : ℕ) (s : F). of b ⊙ s) high twice) low
     ∙ shape (of (m / 2)) (of (m % 2)) (of a)
     ∙ ap (λ (s : F). s ⊙ of a) (sym (last-bit m l))
   where
-    shape : (h b x : F) → α ⊙ (h ⊙ x) ⊕ b ⊙ x ≡ (α ⊙ h ⊕ b) ⊙ x
+    shape : (h b x : F) → h ⊙ (α ⊙ x) ⊕ b ⊙ x ≡ (α ⊙ h ⊕ b) ⊙ x
     shape h b x = simp ⊙-ring
-
--- ---- by Horner's rule
-
-pub times-first : (a m p t : ℕ) → of p ≡ α ⊙ of 0 ⊕ of t ⊙ of a → t ≡ m → Times a m p
-times-first a m p t e h = e ∙ rw (h, of-zero, ⊙-zero) (zero-⊕ _)
-
-pub times-more : (a k m p q t : ℕ)
-    → m < 256 → k ≡ m / 2 → t ≡ m % 2 → Times a k p → of q ≡ α ⊙ of p ⊕ of t ⊙ of a → Times a m q
-times-more a k m p q t l high low h e =
-    bit-more a m q t (α ⊙ of p) l low (ap (λ (s : F). α ⊙ s) (h ∙ ap (λ (b : ℕ). of b ⊙ of a) high)) e
-
--- ---- from the doubles
-
-pub pick-first : (a m p t : ℕ) → of p ≡ of 0 ⊕ of t ⊙ of a → t ≡ m → Times a m p
-pick-first a m p t e h = e ∙ rw (h, of-zero) (zero-⊕ _)
-
-pub pick-more : (a d k m p q t : ℕ)
-    → m < 256 → k ≡ m / 2 → t ≡ m % 2 → Twice a d → Times d k p → of q ≡ of p ⊕ of t ⊙ of a → Times a m q
-pick-more a d k m p q t l high low twice h e =
-    bit-more a m q t (of p) l low
-    (h ∙ ap₂ (λ (b : ℕ) (s : F). of b ⊙ s) high twice ∙ swap (of (m / 2)) (of a)) e
-  where
-    swap : (h x : F) → h ⊙ (α ⊙ x) ≡ α ⊙ (h ⊙ x)
-    swap h x = simp ⊙-ring

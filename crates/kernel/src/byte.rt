@@ -2,7 +2,6 @@
 ghost use Prim.Native.Nat.{_/_, _<_};
 ghost use mathlib.Core.Path.{_≡_};
 ghost use Rattle.field.specs.Field.{α, _⊕_, _⊙_, of, val};
-ghost use Rattle.kernel.specs.ByteMultiply.{Twice};
 use field::Gf;
 
 // A byte as an index.
@@ -26,41 +25,26 @@ fn pick(p: u8, a: u8, n: u8) -> u8
     p ^ ((n >> 7) * a)
 }
 
-// A step of Horner's rule: twice p, with a added if the top bit of n is 1.
-fn step(p: u8, a: u8, n: u8) -> u8
-    ensures { λ r. ⌜ of r ≡ α ⊙ of p ⊕ of (n / 128) ⊙ of a ⌝ }
-{
-    pick(twice(p), a, n)
-}
-
-// The product, by the bits of b from the top: no table is read and no branch is taken.
+// The product: the doubles of a, one after the other, of which the bits of b pick. No table is read and no branch is
+// taken; in a loop in which a stays, its doubles are found once.
 pub fn multiply(a: u8, b: u8) -> u8
     ensures { λ r. ⌜ of r ≡ of a ⊙ of b ⌝ }
 {
-    let p7 = step(0, a, b);
-    let p6 = step(p7, a, b << 1);
-    let p5 = step(p6, a, b << 2);
-    let p4 = step(p5, a, b << 3);
-    let p3 = step(p4, a, b << 4);
-    let p2 = step(p3, a, b << 5);
-    let p1 = step(p2, a, b << 6);
-    step(p1, a, b << 7)
-}
-
-// c0 times x, c1 to c7 being the doubles of c0, one after the other: the sum of those that the bits of x pick. For
-// loops in which c0 stays.
-pub fn by_bits(x: u8, c0: u8, c1: u8, c2: u8, c3: u8, c4: u8, c5: u8, c6: u8, c7: u8) -> u8
-    requires { ⌜ Twice c0 c1 × Twice c1 c2 × Twice c2 c3 × Twice c3 c4 × Twice c4 c5 × Twice c5 c6 × Twice c6 c7 ⌝ }
-    ensures { λ r. ⌜ of r ≡ of x ⊙ of c0 ⌝ }
-{
-    let p7 = pick(0, c7, x);
-    let p6 = pick(p7, c6, x << 1);
-    let p5 = pick(p6, c5, x << 2);
-    let p4 = pick(p5, c4, x << 3);
-    let p3 = pick(p4, c3, x << 4);
-    let p2 = pick(p3, c2, x << 5);
-    let p1 = pick(p2, c1, x << 6);
-    pick(p1, c0, x << 7)
+    let a1 = twice(a);
+    let a2 = twice(a1);
+    let a3 = twice(a2);
+    let a4 = twice(a3);
+    let a5 = twice(a4);
+    let a6 = twice(a5);
+    let a7 = twice(a6);
+    let p7 = pick(0, a7, b);
+    let p6 = pick(p7, a6, b << 1);
+    let p5 = pick(p6, a5, b << 2);
+    let p4 = pick(p5, a4, b << 3);
+    let p3 = pick(p4, a3, b << 4);
+    let p2 = pick(p3, a2, b << 5);
+    let p1 = pick(p2, a1, b << 6);
+    pick(p1, a, b << 7)
 }
 
 // The product of two symbols, with no table.

@@ -18,27 +18,20 @@ pub fn add(from: &[u8], to: &mut [u8])
     }
 }
 
-// Adds c times one word to another, for every c: its doubles are found first, and then the symbols are walked.
+// Adds c times one word to another, for every c.
 fn walk(c: Gf, from: &[u8], to: &mut [u8])
     requires { ⌜ length (now from) ≡ length (now to) ⌝ }
     ensures { λ _. ⌜ bytes (now (to .exit)) ≡ bytes (now (to .entry)) ⊞ K (val c) ⊠ bytes (now (from .entry)) ⌝ }
 {
-    let c0 = c.0;
-    let c1 = crate::byte::twice(c0);
-    let c2 = crate::byte::twice(c1);
-    let c3 = crate::byte::twice(c2);
-    let c4 = crate::byte::twice(c3);
-    let c5 = crate::byte::twice(c4);
-    let c6 = crate::byte::twice(c5);
-    let c7 = crate::byte::twice(c6);
+    let a = c.0;
     let mut j: usize = 0;
     while j < to.len() {
-        to[j] = to[j] ^ crate::byte::by_bits(from[j], c0, c1, c2, c3, c4, c5, c6, c7);
+        to[j] = to[j] ^ crate::byte::multiply(a, from[j]);
         j += 1;
     }
 }
 
-// Adds c times one word to another, whatever c is. A factor of one is a plain sum.
+// The same; a factor of one is a plain sum.
 pub fn add_multiple(c: Gf, from: &[u8], to: &mut [u8])
     requires { ⌜ length (now from) ≡ length (now to) ⌝ }
     ensures { λ _. ⌜ bytes (now (to .exit)) ≡ bytes (now (to .entry)) ⊞ K (val c) ⊠ bytes (now (from .entry)) ⌝ }

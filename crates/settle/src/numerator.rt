@@ -24,7 +24,7 @@ fn add_term(c: Gf, a: usize, row: [Gf; SYNDROMES], to: &mut [u8])
     while j < LANES {
         let g = row[j];
         let q = a + j;
-        to[q] = to[q] ^ kernel::multiply(g.0, c.0);
+        to[q] = to[q] ^ kernel::multiply(c.0, g.0);
         j = j + 1;
     }
 }

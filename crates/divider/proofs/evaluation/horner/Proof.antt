@@ -3,7 +3,7 @@ use Prim.Native.Nat.{ℕ, _+_, _-_, _≤_}
 use mathlib.Core.Path.{_≡_, sym, ap, ap₂, _∙_}
 use native.Mathlib.Omega.{arith}
 use lib.ListN.{length, length-set, length-replicate}
-use Rattle.field.specs.Field.{F, _⊕_, _⊙_, of, of-zero, of-xor}
+use Rattle.field.specs.Field.{F, _⊕_, _⊙_, of, of-zero, of-xor, ⊙-comm}
 use Rattle.series.specs.Shift.{cut}
 use Rattle.series.specs.Array.{bytes, read-at, read-zeros, read-store}
 use borrow.Author.Needs.{needs}
@@ -20,14 +20,14 @@ abbrev μ-loop : tie.MeasureT-loop
 loop-holds : tie.Need-loop-holds Inv-loop μ-loop
 loop-holds c = (search needs, length-replicate {A = ℕ} 32 0, read-zeros of 0 of-zero 32 _)
 
-array-read-multiply : tie.Need-array-read-multiply Inv-loop μ-loop
-array-read-multiply c = search needs
-
 add-multiply : tie.Need-add-multiply Inv-loop μ-loop
 add-multiply c = search needs
 
 shared-slice-read-multiply : tie.Need-shared-slice-read-multiply Inv-loop μ-loop
 shared-slice-read-multiply c = search needs
+
+array-read-multiply : tie.Need-array-read-multiply Inv-loop μ-loop
+array-read-multiply c = search needs
 
 multiply-requires : tie.Need-multiply-requires Inv-loop μ-loop
 multiply-requires c κs = search needs
@@ -47,7 +47,7 @@ loop-again c =
     let now = at-loop .loop in
     let given = at-loop .before .before .args in
     let x = given .x .now in
-    let product = c .multiply .ensures
+    let product = c .multiply .ensures ∙ ⊙-comm _ _
     ∙ sym (ap₂ _⊙_ (read-at of 0 (given .t3) (now .j)) (read-at of 0 x (given .i + now .j))) in (
       omega arith,
       length-set (now .out) _ _ ∙ now .inv .1,
@@ -68,9 +68,9 @@ horner-spec =
     Inv-loop
     μ-loop
     loop-holds
-    array-read-multiply
     add-multiply
     shared-slice-read-multiply
+    array-read-multiply
     multiply-requires
     array-write-out
     add-j

@@ -3,7 +3,7 @@ use Prim.Native.Nat.{_-_, _≤_}
 use mathlib.Core.Path.{_≡_, refl, sym, ap, _∙_}
 use native.Mathlib.Omega.{arith}
 use lib.ListN.{length, length-set}
-use Rattle.field.specs.Field.{F, _⊕_, _⊙_, of, ⊙-comm, val-of}
+use Rattle.field.specs.Field.{F, _⊕_, _⊙_, of, val-of}
 use Rattle.series.specs.Series.{K, _⊞_, _⊠_}
 use Rattle.series.specs.Shift.{cut}
 use Rattle.series.specs.Array.{bytes, read-at}
@@ -13,32 +13,11 @@ use Rattle.kernel.proofs.word.walk.Statement.{statement}
 use Rattle.kernel.proofs.word.walk.Tie as tie
 
 abbrev Inv-loop : tie.InvT-loop
-Inv-loop from to₀ c0 c1 c2 c3 c4 c5 c6 c7 j₀ to j = (j ≤ length to₀) × (length to ≡ length to₀)
-    × (bytes to ≡ bytes to₀ ⊞ K (of c0) ⊠ cut j (bytes from))
+Inv-loop from to₀ a j₀ to j = (j ≤ length to₀) × (length to ≡ length to₀)
+    × (bytes to ≡ bytes to₀ ⊞ K (of a) ⊠ cut j (bytes from))
 
 abbrev μ-loop : tie.MeasureT-loop
-μ-loop from to₀ c0 c1 c2 c3 c4 c5 c6 c7 j₀ to j = length to₀ - j
-
-twice-requires : tie.Need-twice-requires Inv-loop μ-loop
-twice-requires c κs = search needs
-
-twice-requires-2 : tie.Need-twice-requires-2 Inv-loop μ-loop
-twice-requires-2 c κs = search needs
-
-twice-requires-3 : tie.Need-twice-requires-3 Inv-loop μ-loop
-twice-requires-3 c κs = search needs
-
-twice-requires-4 : tie.Need-twice-requires-4 Inv-loop μ-loop
-twice-requires-4 c κs = search needs
-
-twice-requires-5 : tie.Need-twice-requires-5 Inv-loop μ-loop
-twice-requires-5 c κs = search needs
-
-twice-requires-6 : tie.Need-twice-requires-6 Inv-loop μ-loop
-twice-requires-6 c κs = search needs
-
-twice-requires-7 : tie.Need-twice-requires-7 Inv-loop μ-loop
-twice-requires-7 c κs = search needs
+μ-loop from to₀ a j₀ to j = length to₀ - j
 
 loop-holds : tie.Need-loop-holds Inv-loop μ-loop
 loop-holds c = (search needs, refl, multiple-none _ _ _)
@@ -46,11 +25,11 @@ loop-holds c = (search needs, refl, multiple-none _ _ _)
 slice-read-to : tie.Need-slice-read-to Inv-loop μ-loop
 slice-read-to c = search needs
 
-shared-slice-read-by-bits : tie.Need-shared-slice-read-by-bits Inv-loop μ-loop
-shared-slice-read-by-bits c = search needs
+shared-slice-read-multiply : tie.Need-shared-slice-read-multiply Inv-loop μ-loop
+shared-slice-read-multiply c = search needs
 
-by-bits-requires : tie.Need-by-bits-requires Inv-loop μ-loop
-by-bits-requires c κs = search needs
+multiply-requires : tie.Need-multiply-requires Inv-loop μ-loop
+multiply-requires c κs = search needs
 
 slice-write-to : tie.Need-slice-write-to Inv-loop μ-loop
 slice-write-to c = search needs
@@ -65,9 +44,9 @@ loop-again : tie.Need-loop-again Inv-loop μ-loop
 loop-again c =
     let at-loop = c .before .before .before .before in
     let now = at-loop .loop in
-    let given = at-loop .before .before .before .before .before .before .before .before .before .before .args in
+    let given = at-loop .before .before .before .args in
     let product =
-    c .by-bits .ensures ∙ ⊙-comm _ _
+    c .multiply .ensures
     ∙ ap (λ (s : F). of (given .c .0) ⊙ s) (sym (read-at of 0 (given .from .now) (now .j))) in
     let sum = bytes-xor (now .to) (now .j) _ ∙ ap (λ (s : F). bytes (now .to) (now .j) ⊕ s) product in (
       omega arith,
@@ -82,7 +61,7 @@ returns : tie.Need-returns Inv-loop μ-loop
 returns c =
     let at-loop = c .before in
     let end = at-loop .loop in
-    let given = at-loop .before .before .before .before .before .before .before .before .before .before in
+    let given = at-loop .before .before .before in
     end .inv .2
     ∙ multiple-all (end .j) _ _ (given .args .from .now) (omega (arith, given .pre))
     ∙ ap (λ (a : F). bytes (given .args .to .now) ⊞ K a ⊠ bytes (given .args .from .now))
@@ -94,17 +73,10 @@ walk-spec =
     (tie.spec
     Inv-loop
     μ-loop
-    twice-requires
-    twice-requires-2
-    twice-requires-3
-    twice-requires-4
-    twice-requires-5
-    twice-requires-6
-    twice-requires-7
     loop-holds
     slice-read-to
-    shared-slice-read-by-bits
-    by-bits-requires
+    shared-slice-read-multiply
+    multiply-requires
     slice-write-to
     add-j
     loop-less

@@ -3,7 +3,7 @@ use Prim.Native.Nat.{_+_, _-_, _≤_}
 use mathlib.Core.Path.{_≡_, refl, sym, ap, ap₂, _∙_}
 use native.Mathlib.Omega.{arith}
 use lib.ListN.{length, length-set}
-use Rattle.field.specs.Field.{F, _⊕_, _⊙_, val, val-of, ⊙-comm}
+use Rattle.field.specs.Field.{F, _⊕_, _⊙_, val, val-of}
 use Rattle.series.specs.Series.{K, _⊞_, _⊠_, K-⊠-at}
 use Rattle.series.specs.Shift.{zpow, cut}
 use Rattle.series.specs.Array.{bytes}
@@ -50,7 +50,7 @@ loop-again c =
     let now = at-loop .loop in
     let given = at-loop .before .before .args in
     let product = c .multiply .ensures
-    ∙ ap₂ _⊙_ (sym (row-at (given .t3) (now .j) (omega arith) ∙ val-of _)) (sym (val-of (given .c))) ∙ ⊙-comm _ _ in (
+    ∙ ap₂ _⊙_ (sym (val-of (given .c))) (sym (row-at (given .t3) (now .j) (omega arith) ∙ val-of _)) in (
       omega arith,
       length-set (now .to) _ _ ∙ now .inv .1,
       add-more (now .to) (given .a) (now .j) _ _ _ (omega arith) (now .inv .2)
