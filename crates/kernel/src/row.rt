@@ -1,4 +1,4 @@
-// Rows of products, and what is done with one lookup a symbol.
+// Rows of products, and the value of a word by one lookup a symbol.
 ghost use Prim.Native.Nat.{_+_, _≤_};
 ghost use mathlib.Core.Path.{_≡_};
 ghost use lib.ListN.{length};

@@ -18,7 +18,7 @@ pub fn add(from: &[u8], to: &mut [u8])
     }
 }
 
-// Adds c times one word to another, for every c.
+// Adds c times one word to another, for every c. As c stays, its doubles are found once, before the symbols are walked.
 fn walk(c: Gf, from: &[u8], to: &mut [u8])
     requires { ⌜ length (now from) ≡ length (now to) ⌝ }
     ensures { λ _. ⌜ bytes (now (to .exit)) ≡ bytes (now (to .entry)) ⊞ K (val c) ⊠ bytes (now (from .entry)) ⌝ }
@@ -31,7 +31,7 @@ fn walk(c: Gf, from: &[u8], to: &mut [u8])
     }
 }
 
-// The same; a factor of one is a plain sum.
+// The same, by the walk or, where c is one, by a plain sum.
 pub fn add_multiple(c: Gf, from: &[u8], to: &mut [u8])
     requires { ⌜ length (now from) ≡ length (now to) ⌝ }
     ensures { λ _. ⌜ bytes (now (to .exit)) ≡ bytes (now (to .entry)) ⊞ K (val c) ⊠ bytes (now (from .entry)) ⌝ }
