@@ -11,18 +11,6 @@ ghost use Rattle.block.specs.Parts.{Fits};
 use field::Gf;
 use profile::Profile;
 
-// Adds subword i of a block to the word.
-pub fn add_subword(p: Profile, block: &[u8], i: usize, word: &mut [u8])
-    requires { ⌜ Fits p (now block) × (i < p .subwords) × (p .length ≤ length (now word)) ⌝ }
-    ensures { λ _. ⌜ bytes (now (word .exit)) ≡
-        bytes (now (word .entry)) ⊞ cut (p .length) (subword (p .length) (bytes (now (block .entry))) i) ⌝ }
-{
-    let n = p.length as usize;
-    let a = i * n;
-    let e = a + n;
-    kernel::add(&block[a..e], &mut word[..n]);
-}
-
 // Adds c times subword i of a block to the word, whatever c is.
 pub fn add_multiple(p: Profile, c: Gf, block: &[u8], i: usize, word: &mut [u8])
     requires { ⌜ Fits p (now block) × (i < p .subwords) × (p .length ≤ length (now word)) ⌝ }
@@ -33,4 +21,13 @@ pub fn add_multiple(p: Profile, c: Gf, block: &[u8], i: usize, word: &mut [u8])
     let a = i * n;
     let e = a + n;
     kernel::add_multiple(c, &block[a..e], &mut word[..n]);
+}
+
+// Adds subword i of a block to the word.
+pub fn add_subword(p: Profile, block: &[u8], i: usize, word: &mut [u8])
+    requires { ⌜ Fits p (now block) × (i < p .subwords) × (p .length ≤ length (now word)) ⌝ }
+    ensures { λ _. ⌜ bytes (now (word .exit)) ≡
+        bytes (now (word .entry)) ⊞ cut (p .length) (subword (p .length) (bytes (now (block .entry))) i) ⌝ }
+{
+    add_multiple(p, Gf::ONE, block, i, word);
 }

@@ -2,10 +2,9 @@
 --
 --   combined n s c r   the sum of c k times subword k of the block s, over the first r subwords
 --
--- Proved: no subword and one subword more (combined-none, combined-more); a nested word is such a sum (combined-
--- nested), and its factors are found one from the other (power-none, power-more); from subword v on nothing is carried
--- (carried-none); a subword as a part of the bytes of a block (subword-part), and a multiple of it added to a word
--- (add-part), or itself (sum-part).
+-- Proved: no subword and one subword more (combined-none, combined-more); a nested word is such a sum
+-- (combined-nested); from subword v on nothing is carried (carried-none); a subword as a part of the bytes of a block
+-- (subword-part), and a multiple of it added to a word (add-part).
 use Prim.Native.Nat.{ℕ, suc, _+_, _-_, _*_, _≤_, _<_}
 use mathlib.Core.Path.{_≡_, refl, sym, ap, ap₂, _∙_, fun-ext}
 use mathlib.Core.List.{List, _++_}
@@ -13,9 +12,9 @@ use native.Mathlib.Decide.{decLt}
 use native.Mathlib.Numerals.{add-one}
 use native.Mathlib.Omega.{arith}
 use lib.ListN.{length, take, drop as drop-list, replicate}
-use Rattle.field.specs.Field.{F, 𝟏, α, _⊕_, _⊙_, ⊕-zero, pow, of, of-zero}
+use Rattle.field.specs.Field.{F, α, _⊕_, _⊙_, ⊕-zero, pow, of, of-zero}
 use Rattle.series.specs.Sum.{sum, sum-none, sum-suc}
-use Rattle.series.specs.Series.{Series, O, O-at, K, _⊞_, _⊠_, ⊞-at, K-⊠-at, one-⊠}
+use Rattle.series.specs.Series.{Series, O, O-at, K, _⊞_, _⊠_, ⊞-at, K-⊠-at}
 use Rattle.series.specs.Shift.{cut, cut-none, cut-unique, cut-⊞, cut-K-⊠, drop, drop-at}
 use Rattle.series.specs.Degree.{below-O, below-cut, below-cut-eq, below-K-⊠}
 use Rattle.series.specs.Array.{bytes, read-zeros}
@@ -107,11 +106,3 @@ add-part n i k b w y c ek hb hw ly e = fun-ext (λ q. go q (decLt q n) ∙ sym (
         ∙ read-drop of 0 n w (q - n)
         ∙ ap (bytes w) x
         ∙ sym (ap (λ t. bytes w q ⊕ t) (below-K-⊠ n c g (below-cut n _) q (omega arith)) ∙ ⊕-zero _)
-
--- the subword as it is
-pub sum-part : (n i k : ℕ) (b w y : List ℕ) → k ≡ n → i * n + n ≤ length b → n ≤ length w → length y ≡ n
-    → bytes y ≡ bytes (take n w) ⊞ bytes (take k (drop-list (i * n) b))
-    → bytes (y ++ drop-list n w) ≡ bytes w ⊞ cut n (subword n (bytes b) i)
-sum-part n i k b w y ek hb hw ly e =
-    add-part n i k b w y 𝟏 ek hb hw ly (e ∙ ap (λ (f : Series). bytes (take n w) ⊞ f) (sym (one-⊠ _)))
-    ∙ ap (λ (f : Series). bytes w ⊞ f) (one-⊠ _)
