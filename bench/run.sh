@@ -1,6 +1,7 @@
 #!/usr/bin/env bash
-# The benchmark: builds the codec as a static library, and runs it and libfec in one program. It needs rt, cc and
-# libfec's header (Debian's libfec-dev). Where the header is missing, it installs it, or says that it is needed.
+# The benchmark: builds the codec as a static library, and runs it and libfec in one program; then products by one value
+# in three ways in another. It needs rt, cc and libfec's header (Debian's libfec-dev). Where the header is missing, it
+# installs it, or says that it is needed.
 set -eu
 cd "$(dirname "$0")/.."
 for tool in rt cc; do
@@ -22,4 +23,8 @@ if ! has_libfec; then
 fi
 rt staticlib gii > /dev/null
 cc -O2 -Wall -Iinclude bench/bench.c target/staticlib/libgii.a -lfec -o target/bench
-exec target/bench
+rt staticlib bench_products > /dev/null
+cc -O2 -Wall bench/products.c target/staticlib/libbench_products.a -o target/products
+target/bench
+echo
+target/products

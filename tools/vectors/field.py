@@ -1,5 +1,5 @@
 """test_field: zero, one and α, logarithms, powers, inverses, and every product, from the product of polynomials over
-GF(2)."""
+GF(2). The program takes the products in three ways, and prints them for each."""
 from .common import text
 
 MODULUS = 0x11d          # z^8 + z^4 + z^3 + z^2 + 1
@@ -25,4 +25,5 @@ def make():
     products = [[product(a, b) for b in range(256)] for a in range(256)]
     logarithms = [0] + [powers.index(a) for a in range(1, 256)]
     inverses = [products[a].index(one) for a in range(1, 256)]
-    return {'stdout': text(' '.join(map(str, line)) for line in [NAMED, logarithms, powers, inverses] + products)}
+    lines = [NAMED, logarithms, powers, inverses] + 3 * products
+    return {'stdout': text(' '.join(map(str, line)) for line in lines)}

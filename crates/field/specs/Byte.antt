@@ -165,6 +165,9 @@ pub val-nonzero : (g : Gf) → g .0 < 256 → g .0 ≢ 0 → val g ≢ 𝟎
 unfolding val
 val-nonzero g h ne = of-nonzero (g .0) h ne
 
+pub val-inj : (g h : Gf) → g .0 < 256 → h .0 < 256 → val g ≡ val h → g ≡ h
+val-inj g h p q e = ap (λ (n : ℕ). record { 0 = n }) (of-inj (g .0) (h .0) p q (sym (val-of g) ∙ e ∙ val-of h))
+
 pub val-zero : val (record { 0 = 0 }) ≡ 𝟎
 unfolding val
 val-zero = of-zero

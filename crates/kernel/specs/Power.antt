@@ -2,7 +2,8 @@
 --
 --   Power w   w is a power of two, at most 256
 --
--- Proved: the next one, and that w and a number below it add up as field values.
+-- Proved: the next one; that it is at most any other that is above w (power-fits); that w and a number below it add up
+-- as field values.
 use Prim.Native.Nat.{ℕ, suc, _+_, _^_, _≤_, _<_}
 use mathlib.Core.Path.{_≡_, refl, sym, ap, _∙_}
 use native.Mathlib.Decide.{decLe}
@@ -18,15 +19,27 @@ pub record Power (w : ℕ) : Type 0 where
 pub power-one : Power 1
 power-one = record { exponent = 0; is = refl; most = omega arith }
 
-room : (k : ℕ) → 2 ^ k < 256 → 2 ^ k + 2 ^ k ≤ 256
-room k h = go (decLe 8 k)
+pub power-16 : Power 16
+power-16 = record { exponent = 4; is = refl; most = omega arith }
+
+pub power-256 : Power 256
+power-256 = record { exponent = 8; is = refl; most = omega arith }
+
+room : (k m : ℕ) → 2 ^ k < 2 ^ m → 2 ^ k + 2 ^ k ≤ 2 ^ m
+room k m h = go (decLe m k)
   where
-    go : Dec (8 ≤ k) → 2 ^ k + 2 ^ k ≤ 256
+    go : Dec (m ≤ k) → 2 ^ k + 2 ^ k ≤ 2 ^ m
     go (yes l) = absurd (omega (arith, pow-le-pow-right {n = 2} (omega arith) l))
-    go (no l) = omega (arith, two-pow-succ k, pow-le-pow-right {n = 2} (omega arith) {i = suc k} {j = 8} (omega arith))
+    go (no l) = omega (arith, two-pow-succ k, pow-le-pow-right {n = 2} (omega arith) {i = suc k} {j = m} (omega arith))
+
+pub power-some : (w : ℕ) → Power w → 0 < w
+power-some w p = rw (p .is) (one-le-pow (p .exponent) 2 (omega arith))
+
+pub power-fits : (w n : ℕ) → Power w → Power n → w < n → w + w ≤ n
+power-fits w n p q h = rw (p .is, q .is) (room (p .exponent) (q .exponent) (omega (arith, p .is, q .is)))
 
 pub power-room : (w : ℕ) → Power w → w < 256 → (0 < w) × (w + w ≤ 256)
-power-room w p h = rw (p .is) (one-le-pow (p .exponent) 2 (omega arith), room (p .exponent) (omega (arith, p .is)))
+power-room w p h = (power-some w p, power-fits w 256 p power-256 h)
 
 pub power-more : (w : ℕ) → Power w → w < 256 → Power (w + w)
 power-more w p h =

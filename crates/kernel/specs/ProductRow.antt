@@ -3,21 +3,21 @@
 --   products c       the row of c as a series: x times c, for each byte x
 --   factor l         the factor of the row l: its entry 1
 --   ProductRow l            l is a row
---   Level c w t l    the first w entries of the row of c, w a power of two, and t is w times c
+--   Level n c w t l    the list l, of n entries, has the first w of the row of c, w and n powers of two; t is w times c
 --
--- Proved: the first 256 products of c are a row with the factor c (row-products, factor-products). A loop that doubles
--- w goes on by level-more: entry w + i is entry i and w times c.
+-- Proved: the first 256 products of c are a row with the factor c (row-products, factor-products); fewer have the same
+-- factor (factor-cut). A loop that doubles w goes on by level-more: entry w + i is entry i and w times c.
 use Prim.Native.Nat.{ℕ, _+_, _≤_, _<_}
-use mathlib.Core.Path.{_≡_, sym, ap, ap₂, _∙_}
+use mathlib.Core.Path.{_≡_, refl, sym, ap, ap₂, _∙_}
 use mathlib.Core.List.{List}
 use native.Mathlib.Omega.{arith}
-use lib.ListN.{length, replicate, length-replicate}
+use lib.ListN.{length}
 use Rattle.field.specs.Field.{F, α, _⊕_, _⊙_, of, of-zero, of-one, of-double, zero-⊙, one-⊙, ⊙-assoc, ⊙-comm, ⊕-⊙}
-use Rattle.series.specs.Series.{Series, _⊞_, _⊠_}
-use Rattle.series.specs.Shift.{zpow, drop, cut, drop-at, cut-low, cut-zero}
-use Rattle.series.specs.Array.{bytes, read-zeros}
+use Rattle.series.specs.Series.{Series, O, _⊞_, _⊠_}
+use Rattle.series.specs.Shift.{zpow, drop, cut, drop-at, cut-low, cut-none, cut-zero}
+use Rattle.series.specs.Array.{bytes}
 use Rattle.kernel.specs.Store.{cut-cong, cut-join}
-use Rattle.kernel.specs.Power.{Power, power-one, power-more, power-high}
+use Rattle.kernel.specs.Power.{Power, power-one, power-some, power-fits, power-more, power-high}
 
 unfoldable pub products : F → Series
 products c x = of x ⊙ c
@@ -31,10 +31,13 @@ pub record ProductRow (l : List ℕ) : Type 0 where
 
 -- ---- a row from its products
 
-pub factor-products : (l : List ℕ) (c : F) → bytes l ≡ cut 256 (products c) → factor l ≡ c
+pub factor-cut : (n : ℕ) (l : List ℕ) (c : F) → 1 < n → bytes l ≡ cut n (products c) → factor l ≡ c
 unfolding factor products
-factor-products l c e = ap (λ (f : Series). f 1) e ∙ cut-low 256 (products c) 1 (omega arith)
+factor-cut n l c h e = ap (λ (f : Series). f 1) e ∙ cut-low n (products c) 1 h
     ∙ ap (λ (s : F). s ⊙ c) of-one ∙ one-⊙ c
+
+pub factor-products : (l : List ℕ) (c : F) → bytes l ≡ cut 256 (products c) → factor l ≡ c
+factor-products l c e = factor-cut 256 l c (omega arith) e
 
 pub row-products : (l : List ℕ) (c : F) → length l ≡ 256 → bytes l ≡ cut 256 (products c) → ProductRow l
 unfolding products
@@ -51,37 +54,46 @@ row-at l x p h = p .at x h ∙ ⊙-comm _ _
 
 -- ---- levels
 
-pub record Level (c : F) (w t : ℕ) (l : List ℕ) : Type 0 where
+pub record Level (n : ℕ) (c : F) (w t : ℕ) (l : List ℕ) : Type 0 where
+  pub whole : Power n
   pub power : Power w
+  pub most : w ≤ n
   pub top : w < 256 → of t ≡ of w ⊙ c
-  pub long : length l ≡ 256
+  pub long : length l ≡ n
   pub is : bytes l ≡ cut w (products c)
 
-pub level-none : (c : F) (t : ℕ) → of t ≡ c → Level c 1 t (replicate 256 0)
+pub level-none : (l : List ℕ) (t : ℕ) → Power (length l) → bytes l ≡ O → Level (length l) (of t) 1 t l
 unfolding products
-level-none c t e =
+level-none l t p e =
     record {
+      whole = p;
       power = power-one;
-      top = λ _. e ∙ sym (ap (λ (s : F). s ⊙ c) of-one ∙ one-⊙ c);
-      long = length-replicate {A = ℕ} 256 0;
-      is = read-zeros of 0 of-zero 256 (products c)
-          ∙ sym (cut-zero 0 (products c) (ap (λ (s : F). s ⊙ c) of-zero ∙ zero-⊙ c));
+      most = omega (arith, power-some (length l) p);
+      top = λ _. sym (ap (λ (s : F). s ⊙ of t) of-one ∙ one-⊙ (of t));
+      long = refl;
+      is = e ∙ sym (cut-none (products (of t)))
+          ∙ sym (cut-zero 0 (products (of t)) (ap (λ (s : F). s ⊙ of t) of-zero ∙ zero-⊙ (of t)));
     }
 
-pub level-more : {c : F} {w t : ℕ} {l : List ℕ} (u : ℕ) (m : List ℕ)
-    → Level c w t l → w < 256 → of u ≡ α ⊙ of t → length m ≡ length l
-    → bytes m ≡ bytes l ⊞ zpow w ⊠ cut w (λ i. bytes l i ⊕ of t) → Level c (w + w) u m
+pub level-more : {n : ℕ} {c : F} {w t : ℕ} {l : List ℕ} (u : ℕ) (m : List ℕ)
+    → Level n c w t l → w < n → of u ≡ α ⊙ of t → length m ≡ length l
+    → bytes m ≡ bytes l ⊞ zpow w ⊠ cut w (λ i. bytes l i ⊕ of t) → Level n c (w + w) u m
 unfolding products
-level-more {c} {w} {t} {l} u m p h e q n =
+level-more {n} {c} {w} {t} {l} u m p h e q r =
     record {
-      power = power-more w (p .power) h;
-      top = λ b. e ∙ ap (λ (s : F). α ⊙ s) (p .top h) ∙ sym (⊙-assoc α (of w) c)
+      whole = p .whole;
+      power = power-more w (p .power) small;
+      most = power-fits w n (p .power) (p .whole) h;
+      top = λ b. e ∙ ap (λ (s : F). α ⊙ s) (p .top small) ∙ sym (⊙-assoc α (of w) c)
           ∙ ap (λ (s : F). s ⊙ c) (sym (of-double w (omega arith)));
       long = q ∙ p .long;
-      is = n ∙ ap₂ (λ (f g : Series). f ⊞ zpow w ⊠ g) (p .is) (cut-cong w _ _ next) ∙ sym (cut-join w w (products c));
+      is = r ∙ ap₂ (λ (f g : Series). f ⊞ zpow w ⊠ g) (p .is) (cut-cong w _ _ next) ∙ sym (cut-join w w (products c));
     }
   where
+    small : w < 256
+    small = omega (arith, p .whole .most)
+
     next : (i : ℕ) → i < w → bytes l i ⊕ of t ≡ drop w (products c) i
     next i b =
-        ap₂ _⊕_ (ap (λ (f : Series). f i) (p .is) ∙ cut-low w (products c) i b) (p .top h)
+        ap₂ _⊕_ (ap (λ (f : Series). f i) (p .is) ∙ cut-low w (products c) i b) (p .top small)
         ∙ sym (drop-at w (products c) i ∙ ap (λ (s : F). s ⊙ c) (power-high w i (p .power) b) ∙ ⊕-⊙ (of i) (of w) c)

@@ -2,8 +2,9 @@
 --
 -- Proved: a store at j adds one term at z^j (bytes-set, bytes-add). A loop that writes g after the last coefficient of
 -- f, or adds a multiple of g, goes on by one coefficient (append-more, multiple-more), and what stands before is kept
--- (append-low); once all are added, so is the whole (multiple-all). The first coefficients of a series are found by
--- what they are (cut-cong) and in two parts (cut-join).
+-- (append-low); once all are added, so is the whole (multiple-all). A word that is multiplied in place gets a multiple
+-- of itself added (scaled-more, scaled-all). The first coefficients of a series are found by what they are (cut-cong)
+-- and in two parts (cut-join).
 use Prim.Native.Nat.{ℕ, _+_, _≤_, _<_}
 use mathlib.Core.Path.{_≡_, sym, ap, ap₂, _∙_, fun-ext}
 use mathlib.Core.List.{List}
@@ -12,8 +13,8 @@ use native.Mathlib.Numerals.{add-one}
 use native.Mathlib.Omega.{arith}
 use lib.Bits.{bitXor}
 use lib.ListN.{length, getD, set}
-use Rattle.field.specs.Field.{F, 𝟎, _⊕_, _⊙_, of, of-zero, of-xor, zero-⊕, ⊕-zero, ⊕-self-left, ⊙-ring}
-use Rattle.series.specs.Series.{Series, K, _⊞_, _⊠_, ⊞-at, K-⊠-at, ⊠-ring}
+use Rattle.field.specs.Field.{F, 𝟎, 𝟏, _⊕_, _⊙_, of, of-zero, of-xor, zero-⊕, ⊕-zero, ⊕-self-left, ⊙-zero, ⊙-ring}
+use Rattle.series.specs.Series.{Series, K, _⊞_, _⊠_, ⊞-at, K-⊠-at, K-⊕, ⊠-ring}
 use Rattle.series.specs.Shift.{zpow, drop, cut, zpow-add, zpow-at, zpow-low, zpow-one, zpow-other, drop-at}
 use Rattle.series.specs.Shift.{cut-low, cut-high, cut-none, cut-suc, cut-unique, cut-drop}
 use Rattle.series.specs.Degree.{below, below-weaken, below-cut-eq}
@@ -72,6 +73,24 @@ pub multiple-all : (i : ℕ) (a : F) (f : Series) (l : List ℕ) → length l �
 multiple-all i a f l h =
     ap (λ (g : Series). f ⊞ K a ⊠ g)
     (below-cut-eq i _ (below-weaken (length l) i _ (below-read of 0 of-zero l) h))
+
+-- ---- a word multiplied in place: c g is g and (c + 1) g
+
+pub scaled-more : (l : List ℕ) (i v : ℕ) (c : F) (g : Series) → i < length l → bytes l ≡ g ⊞ K (c ⊕ 𝟏) ⊠ cut i g
+    → of v ≡ c ⊙ bytes l i
+    → bytes (set l i v) ≡ g ⊞ K (c ⊕ 𝟏) ⊠ cut (i + 1) g
+scaled-more l i v c g h e q =
+    multiple-more l i v (c ⊕ 𝟏) g g h e (q ∙ rw here (shape c (g i)))
+  where
+    here : bytes l i ≡ g i
+    here = ap (λ (f : Series). f i) e
+        ∙ rw (⊞-at, K-⊠-at, cut-high i g i (omega arith), ⊙-zero) (⊕-zero (g i))
+
+    shape : (c s : F) → c ⊙ s ≡ s ⊕ (c ⊕ 𝟏) ⊙ s
+    shape c s = simp ⊙-ring
+
+pub scaled-all : (i : ℕ) (c : F) (l : List ℕ) → length l ≤ i → bytes l ⊞ K (c ⊕ 𝟏) ⊠ cut i (bytes l) ≡ K c ⊠ bytes l
+scaled-all i c l h = multiple-all i (c ⊕ 𝟏) (bytes l) l h ∙ rw K-⊕ (simp ⊠-ring)
 
 -- ---- the first coefficients
 

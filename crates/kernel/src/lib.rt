@@ -1,6 +1,8 @@
-// Hot loops over lent bytes and lent rows of products; the functions of single bytes are passed on.
+// Hot loops over lent bytes and lent rows of products; the functions of single bytes are passed on. Products by one
+// value can also be taken from half-byte tables (`halves`).
 // The promises are equations of series: `bytes l` is the list l as the series of its entries, then zeros.
 mod byte;
+pub mod halves;
 mod row;
 mod word;
 
@@ -13,3 +15,4 @@ pub use row::value;
 pub use word::add;
 pub use word::add_multiple;
 pub use word::copy;
+pub use word::short_value;

@@ -1,13 +1,14 @@
 // Rows of products, and the value of a word by one lookup a symbol.
-ghost use Prim.Native.Nat.{_+_, _≤_};
+ghost use Prim.Native.Nat.{_+_, _≤_, _<_};
 ghost use mathlib.Core.Path.{_≡_};
 ghost use lib.ListN.{length};
-ghost use Rattle.field.specs.Field.{_⊕_, of, val};
-ghost use Rattle.series.specs.Series.{_⊞_, _⊠_};
+ghost use Rattle.field.specs.Field.{_⊕_, _⊙_, of, val};
+ghost use Rattle.series.specs.Series.{O, _⊞_, _⊠_};
 ghost use Rattle.series.specs.Shift.{zpow, cut};
 ghost use Rattle.series.specs.Degree.{below};
 ghost use Rattle.series.specs.Value.{value};
 ghost use Rattle.series.specs.Array.{bytes};
+ghost use Rattle.kernel.specs.Power.{Power};
 ghost use Rattle.kernel.specs.ProductRow.{products, factor, ProductRow};
 use field::Gf;
 
@@ -24,19 +25,30 @@ fn level(top: u8, w: usize, row: &mut [u8])
     }
 }
 
-// The row of products of c, whose entry x is x times c: the product is linear, so eight levels make the row with no
-// product.
+// Fills a row of zeros, whose length is a power of two: entry x becomes x times c. The product is linear, so levels make
+// the row with doubles and no product. The double that would come next is given back: the length times c, in a row that
+// is shorter than 256.
+pub fn fill(c: u8, row: &mut [u8]) -> u8
+    requires { ⌜ Power (length (now row)) × (bytes (now row) ≡ O) ⌝ }
+    ensures entries { λ _. ⌜ bytes (now (row .exit)) ≡ cut (length (now (row .entry))) (products (of c)) ⌝ }
+    ensures next { λ r. ⌜ (length (now (row .entry)) < 256 → of r ≡ of (length (now (row .entry))) ⊙ of c) ⌝ }
+{
+    let mut top = c;
+    let mut w: usize = 1;
+    while w < row.len() {
+        level(top, w, row);
+        top = crate::byte::twice(top);
+        w = w + w;
+    }
+    top
+}
+
+// The row of products of c, whose entry x is x times c.
 pub fn product_row(c: Gf) -> [u8; 256]
     ensures { λ r. ⌜ bytes r ≡ cut 256 (products (val c)) ⌝ }
 {
     let mut row = [0u8; 256];
-    let mut top = c.0;
-    let mut w: usize = 1;
-    while w < 256 {
-        level(top, w, &mut row);
-        top = crate::byte::twice(top);
-        w = w + w;
-    }
+    fill(c.0, &mut row);
     row
 }
 

@@ -3,6 +3,7 @@ ghost use mathlib.Core.Path.{_≡_};
 ghost use lib.ListN.{length};
 ghost use Rattle.field.specs.Field.{val};
 ghost use Rattle.series.specs.Series.{K, _⊞_, _⊠_};
+ghost use Rattle.series.specs.Value.{value};
 ghost use Rattle.series.specs.Array.{bytes};
 use field::Gf;
 
@@ -41,6 +42,19 @@ pub fn add_multiple(c: Gf, from: &[u8], to: &mut [u8])
         return;
     }
     walk(c, from, to);
+}
+
+// The value of a word at w by products, for a word so short that a row of them would cost more.
+pub fn short_value(w: Gf, word: &[u8]) -> Gf
+    ensures { λ r. ⌜ val r ≡ value (length (now (word .entry))) (bytes (now (word .entry))) (val w) ⌝ }
+{
+    let mut v: u8 = 0;
+    let mut i: usize = word.len();
+    while i > 0 {
+        i -= 1;
+        v = crate::byte::multiply(w.0, v) ^ word[i];
+    }
+    Gf(v)
 }
 
 // Copies one word to another.

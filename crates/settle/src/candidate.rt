@@ -89,19 +89,6 @@ fn walk(locator: [Gf; COEFFICIENTS], numerator: &[u8], roots: usize, n: usize) -
     }
 }
 
-// The value of a word at w by products, for a word so short that a row of them would cost more.
-fn short_value(w: Gf, word: &[u8]) -> Gf
-    ensures { λ r. ⌜ val r ≡ value (length (now (word .entry))) (bytes (now (word .entry))) (val w) ⌝ }
-{
-    let mut v: u8 = 0;
-    let mut i: usize = word.len();
-    while i > 0 {
-        i -= 1;
-        v = kernel::multiply(w.0, v) ^ word[i];
-    }
-    Gf(v)
-}
-
 // A locator of two terms has its one root at W p if its second coefficient is α^p times its first one: logarithms give
 // p. There the odd part is W p times the second coefficient, so that the change is the numerator's value divided by
 // that.
@@ -121,7 +108,7 @@ fn locate_one(locator: [Gf; COEFFICIENTS], numerator: &[u8], n: usize) -> Locate
             pattern: pattern,
         };
     }
-    let top = short_value(Exponent(255 - p).power(), numerator);
+    let top = kernel::short_value(Exponent(255 - p).power(), numerator);
     pattern[p] = kernel::product(top, b.inverse());
     Located {
         whole: true,

@@ -1,4 +1,4 @@
--- The loop ends: line rises to 260.
+-- The loop ends: line rises to 772.
 use Prim.Native.Nat.{_-_}
 use borrow.Author.Needs.{needs}
 use Rattle.test_field.proofs.main.Statement.{statement}
@@ -8,7 +8,7 @@ abbrev Inv-loop : tie.InvT-loop
 Inv-loop line₀ line = Unit {0}
 
 abbrev μ-loop : tie.MeasureT-loop
-μ-loop line₀ line = 260 - line
+μ-loop line₀ line = 772 - line
 
 loop-holds : tie.Need-loop-holds Inv-loop μ-loop
 loop-holds c = search needs

@@ -1,0 +1,24 @@
+-- The walk with c.
+use Rattle.field.specs.Field.{val-of}
+use Rattle.bench_products.specs.Definition.{adds-kept, adds-multiple}
+use borrow.Author.Needs.{needs}
+use Rattle.bench_products.proofs.multiple_by_bits.Statement.{statement}
+use Rattle.bench_products.proofs.multiple_by_bits.Tie as tie
+
+returns : tie.Need-returns
+returns c = adds-kept _ _ _ (c .if1 .taken)
+
+add-multiple-requires : tie.Need-add-multiple-requires
+add-multiple-requires c κs = search needs
+
+same-length : tie.Need-same-length
+same-length c = search needs
+
+returns-2 : tie.Need-returns-2
+returns-2 c =
+    let added = c .before .before in
+    adds-multiple _ _ _ _ _ (added .before .before .if1 .left) (val-of _) (added .add-multiple .ensures)
+
+pub multiple-by-bits-spec : {M : Type 1} → statement M
+multiple-by-bits-spec =
+    tie.close (tie.spec returns add-multiple-requires same-length returns-2)
