@@ -41,9 +41,10 @@ impl Halves {
     pub fn split(c: Gf) -> Halves
         ensures { λ r. ⌜ Halved (val c) (r .low) (r .high) ⌝ }
     {
+        let a = c.0;
         let mut low = [0u8; HALF];
         let mut high = [0u8; HALF];
-        let next = fill(c.0, &mut low);
+        let next = fill(a, &mut low);
         fill(next, &mut high);
         Halves {
             low: low,
