@@ -3,7 +3,7 @@
 --   Halved c low high   the tables of c: of 16 entries each, entry x of low is x times c, entry x of high 16 x times c
 --
 -- Proved: a byte is its low half, and 16 times its high half (half-bytes); so two entries add up to the product, for
--- every c and every byte at once (halved-product). The tables say what they are of (halved-factor, halved-own).
+-- every c and every byte at once (halved-product).
 use Prim.Native.Nat.{ℕ, _+_, _*_, _/_, _%_, _<_}
 use mathlib.Core.Path.{_≡_, sym, ap, ap₂, _∙_}
 use mathlib.Core.List.{List}
@@ -14,17 +14,11 @@ use Rattle.field.specs.Field.{F, 𝟏, α, _⊕_, _⊙_, of, of-xor, of-one, of
 use Rattle.series.specs.Series.{Series}
 use Rattle.series.specs.Shift.{cut, cut-low}
 use Rattle.series.specs.Array.{bytes, read-at}
-use Rattle.kernel.specs.ProductRow.{products, factor, factor-cut}
+use Rattle.kernel.specs.ProductRow.{products}
 
 pub record Halved (c : F) (l h : List ℕ) : Type 0 where
   pub low : bytes l ≡ cut 16 (products c)
   pub high : bytes h ≡ cut 16 (products (of 16 ⊙ c))
-
-pub halved-factor : {c : F} {low high : List ℕ} → Halved c low high → factor low ≡ c
-halved-factor {c} {low} h = factor-cut 16 low c (omega arith) (h .low)
-
-pub halved-own : {c : F} {low high : List ℕ} → Halved c low high → Halved (factor low) low high
-halved-own {c} {low} {high} h = rw (halved-factor h) h
 
 -- ---- a byte by its halves
 

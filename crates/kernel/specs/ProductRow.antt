@@ -5,8 +5,8 @@
 --   ProductRow l            l is a row
 --   Level n c w t l    the list l, of n entries, has the first w of the row of c, w and n powers of two; t is w times c
 --
--- Proved: the first 256 products of c are a row with the factor c (row-products, factor-products); fewer have the same
--- factor (factor-cut). A loop that doubles w goes on by level-more: entry w + i is entry i and w times c.
+-- Proved: the first 256 products of c are a row with the factor c (row-products, factor-products). A loop that doubles
+-- w goes on by level-more: entry w + i is entry i and w times c.
 use Prim.Native.Nat.{ℕ, _+_, _≤_, _<_}
 use mathlib.Core.Path.{_≡_, refl, sym, ap, ap₂, _∙_}
 use mathlib.Core.List.{List}
@@ -31,13 +31,10 @@ pub record ProductRow (l : List ℕ) : Type 0 where
 
 -- ---- a row from its products
 
-pub factor-cut : (n : ℕ) (l : List ℕ) (c : F) → 1 < n → bytes l ≡ cut n (products c) → factor l ≡ c
-unfolding factor products
-factor-cut n l c h e = ap (λ (f : Series). f 1) e ∙ cut-low n (products c) 1 h
-    ∙ ap (λ (s : F). s ⊙ c) of-one ∙ one-⊙ c
-
 pub factor-products : (l : List ℕ) (c : F) → bytes l ≡ cut 256 (products c) → factor l ≡ c
-factor-products l c e = factor-cut 256 l c (omega arith) e
+unfolding factor products
+factor-products l c e = ap (λ (f : Series). f 1) e ∙ cut-low 256 (products c) 1 (omega arith)
+    ∙ ap (λ (s : F). s ⊙ c) of-one ∙ one-⊙ c
 
 pub row-products : (l : List ℕ) (c : F) → length l ≡ 256 → bytes l ≡ cut 256 (products c) → ProductRow l
 unfolding products

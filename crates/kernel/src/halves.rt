@@ -3,11 +3,10 @@
 // tables; the codec itself takes the other ways, which are faster here (README).
 ghost use mathlib.Core.Path.{_≡_};
 ghost use lib.ListN.{length};
-ghost use Rattle.field.specs.Field.{_⊙_, of, val};
+ghost use Rattle.field.specs.Field.{F, _⊙_, of, val};
 ghost use Rattle.series.specs.Series.{K, _⊞_, _⊠_};
 ghost use Rattle.series.specs.Value.{value};
 ghost use Rattle.series.specs.Array.{bytes};
-ghost use Rattle.kernel.specs.ProductRow.{factor};
 ghost use Rattle.kernel.specs.Halves.{Halved};
 use crate::row::fill;
 use field::Gf;
@@ -29,8 +28,7 @@ pub struct TwoWays {
 
 // The product of c and x, by lent tables of c.
 pub fn times_in<'a>(low: &'a [u8; HALF], high: &'a [u8; HALF], x: u8) -> u8
-    requires { ⌜ Halved (factor (now low)) (now low) (now high) ⌝ }
-    ensures { λ r. ⌜ of r ≡ factor (now (low .entry)) ⊙ of x ⌝ }
+    ensures { λ r. ⌜ ((c : F) → Halved c (now (low .entry)) (now (high .entry)) → of r ≡ c ⊙ of x) ⌝ }
 {
     let b = crate::byte::index(x);
     low[b % HALF] ^ high[b / HALF]
@@ -54,8 +52,7 @@ impl Halves {
 
     // The product with x, zero included. A loop lends the tables to `times_in`: a struct by value is copied each time.
     pub fn times(self, x: Gf) -> Gf
-        requires { ⌜ Halved (factor (self .low)) (self .low) (self .high) ⌝ }
-        ensures { λ r. ⌜ val r ≡ factor (self .low) ⊙ val x ⌝ }
+        ensures { λ r. ⌜ ((c : F) → Halved c (self .low) (self .high) → val r ≡ c ⊙ val x) ⌝ }
     {
         Gf(times_in(&self.low, &self.high, x.0))
     }
@@ -75,9 +72,8 @@ pub fn both(c: Gf, x: Gf) -> TwoWays
 
 // The value of a word at c by Horner's rule from the last symbol, by lent tables of c.
 pub fn value<'a>(low: &'a [u8; HALF], high: &'a [u8; HALF], word: &[u8]) -> Gf
-    requires { ⌜ Halved (factor (now low)) (now low) (now high) ⌝ }
-    ensures { λ r. ⌜ val r ≡
-        value (length (now (word .entry))) (bytes (now (word .entry))) (factor (now (low .entry))) ⌝ }
+    ensures { λ r. ⌜ ((c : F) → Halved c (now (low .entry)) (now (high .entry))
+        → val r ≡ value (length (now (word .entry))) (bytes (now (word .entry))) c) ⌝ }
 {
     let mut v: u8 = 0;
     let mut i: usize = word.len();
@@ -90,8 +86,8 @@ pub fn value<'a>(low: &'a [u8; HALF], high: &'a [u8; HALF], word: &[u8]) -> Gf
 
 // Multiplies a word by c, by lent tables of c.
 pub fn scale<'a>(low: &'a [u8; HALF], high: &'a [u8; HALF], word: &mut [u8])
-    requires { ⌜ Halved (factor (now low)) (now low) (now high) ⌝ }
-    ensures { λ _. ⌜ bytes (now (word .exit)) ≡ K (factor (now (low .entry))) ⊠ bytes (now (word .entry)) ⌝ }
+    ensures { λ _. ⌜ ((c : F) → Halved c (now (low .entry)) (now (high .entry))
+        → bytes (now (word .exit)) ≡ K c ⊠ bytes (now (word .entry))) ⌝ }
 {
     let mut j: usize = 0;
     while j < word.len() {
@@ -102,9 +98,9 @@ pub fn scale<'a>(low: &'a [u8; HALF], high: &'a [u8; HALF], word: &mut [u8])
 
 // Adds c times one word to another, by lent tables of c.
 pub fn add_multiple<'a>(low: &'a [u8; HALF], high: &'a [u8; HALF], from: &[u8], to: &mut [u8])
-    requires { ⌜ Halved (factor (now low)) (now low) (now high) × (length (now from) ≡ length (now to)) ⌝ }
-    ensures { λ _. ⌜ bytes (now (to .exit)) ≡
-        bytes (now (to .entry)) ⊞ K (factor (now (low .entry))) ⊠ bytes (now (from .entry)) ⌝ }
+    requires { ⌜ length (now from) ≡ length (now to) ⌝ }
+    ensures { λ _. ⌜ ((c : F) → Halved c (now (low .entry)) (now (high .entry))
+        → bytes (now (to .exit)) ≡ bytes (now (to .entry)) ⊞ K c ⊠ bytes (now (from .entry))) ⌝ }
 {
     let mut q: usize = 0;
     while q < to.len() {

@@ -25,9 +25,9 @@ fn level(top: u8, w: usize, row: &mut [u8])
     }
 }
 
-// Fills a row of zeros, whose length is a power of two: entry x becomes x times c. The product is linear, so levels make
-// the row with doubles and no product. The double that would come next is given back: the length times c, in a row that
-// is shorter than 256.
+// Fills a row of zeros, whose length is a power of two: entry x becomes x times c. The product is linear, so the row is
+// made level by level, with doubles of c and no product. The double that would come next is given back: the length
+// times c, for a row shorter than 256.
 pub fn fill(c: u8, row: &mut [u8]) -> u8
     requires { ⌜ Power (length (now row)) × (bytes (now row) ≡ O) ⌝ }
     ensures entries { λ _. ⌜ bytes (now (row .exit)) ≡ cut (length (now (row .entry))) (products (of c)) ⌝ }

@@ -1,7 +1,5 @@
 -- The tables are those of c.
-use mathlib.Core.Path.{_∙_}
 use Rattle.field.specs.Field.{val-of}
-use Rattle.kernel.specs.Halves.{halved-factor, halved-own}
 use Rattle.bench_products.specs.Definition.{adds-kept, adds-multiple}
 use borrow.Author.Needs.{needs}
 use Rattle.bench_products.proofs.multiple_by_halves.Statement.{statement}
@@ -14,9 +12,7 @@ split-requires : tie.Need-split-requires
 split-requires c κs = search needs
 
 add-multiple-requires : tie.Need-add-multiple-requires
-add-multiple-requires c κs =
-    let made = c .before .before .before .before in
-    (halved-own (made .split .ensures), made .before .if1 .left)
+add-multiple-requires c κs = search needs
 
 same-length : tie.Need-same-length
 same-length c = search needs
@@ -26,8 +22,7 @@ returns-2 c =
     let added = c .before .before in
     let lent = added .before .before .before in
     let made = lent .before .before in
-    adds-multiple _ _ _ _ _ (made .before .if1 .left) (halved-factor (made .split .ensures) ∙ val-of _)
-    (added .add-multiple .ensures)
+    adds-multiple _ _ _ _ _ (made .before .if1 .left) (val-of _) (added .add-multiple .ensures _ (made .split .ensures))
 
 pub multiple-by-halves-spec : {M : Type 1} → statement M
 multiple-by-halves-spec =

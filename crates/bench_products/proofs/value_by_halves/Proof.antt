@@ -4,7 +4,6 @@ use lib.ListN.{length}
 use Rattle.field.specs.Field.{val-of}
 use Rattle.series.specs.Value.{value}
 use Rattle.series.specs.Array.{bytes}
-use Rattle.kernel.specs.Halves.{halved-factor, halved-own}
 use borrow.Author.Needs.{needs}
 use Rattle.bench_products.proofs.value_by_halves.Statement.{statement}
 use Rattle.bench_products.proofs.value_by_halves.Tie as tie
@@ -13,14 +12,13 @@ split-requires : tie.Need-split-requires
 split-requires c κs = search needs
 
 value-requires : tie.Need-value-requires
-value-requires c κs = halved-own (c .before .before .before .split .ensures)
+value-requires c κs = search needs
 
 returns : tie.Need-returns
 returns c =
     let made = c .before .before .before .before in
     let word = made .before .before .args .word .now in
-    sym (val-of _) ∙ c .value .ensures
-    ∙ ap (value (length word) (bytes word)) (halved-factor (made .split .ensures) ∙ val-of _)
+    sym (val-of _) ∙ c .value .ensures _ (made .split .ensures) ∙ ap (value (length word) (bytes word)) (val-of _)
 
 pub value-by-halves-spec : {M : Type 1} → statement M
 value-by-halves-spec = tie.close (tie.spec split-requires value-requires returns)

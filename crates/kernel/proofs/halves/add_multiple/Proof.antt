@@ -7,7 +7,7 @@ use Rattle.field.specs.Field.{F, _⊕_, _⊙_, of}
 use Rattle.series.specs.Series.{K, _⊞_, _⊠_}
 use Rattle.series.specs.Shift.{cut}
 use Rattle.series.specs.Array.{bytes, read-at}
-use Rattle.kernel.specs.ProductRow.{factor}
+use Rattle.kernel.specs.Halves.{Halved}
 use Rattle.kernel.specs.Store.{bytes-xor, multiple-none, multiple-more, multiple-all}
 use borrow.Author.Needs.{needs}
 use Rattle.kernel.proofs.halves.add_multiple.Statement.{statement}
@@ -15,13 +15,13 @@ use Rattle.kernel.proofs.halves.add_multiple.Tie as tie
 
 abbrev Inv-loop : tie.InvT-loop
 Inv-loop low high from to₀ q₀ to q = (q ≤ length to₀) × (length to ≡ length to₀)
-    × (bytes to ≡ bytes to₀ ⊞ K (factor low) ⊠ cut q (bytes from))
+    × ((c : F) → Halved c low high → bytes to ≡ bytes to₀ ⊞ K c ⊠ cut q (bytes from))
 
 abbrev μ-loop : tie.MeasureT-loop
 μ-loop low high from to₀ q₀ to q = length to₀ - q
 
 loop-holds : tie.Need-loop-holds Inv-loop μ-loop
-loop-holds c = (search needs, refl, multiple-none _ _ _)
+loop-holds c = (search needs, refl, λ _ _. multiple-none _ _ _)
 
 slice-read-to : tie.Need-slice-read-to Inv-loop μ-loop
 slice-read-to c = search needs
@@ -30,9 +30,7 @@ shared-slice-read-times-in : tie.Need-shared-slice-read-times-in Inv-loop μ-loo
 shared-slice-read-times-in c = search needs
 
 times-in-requires : tie.Need-times-in-requires Inv-loop μ-loop
-times-in-requires c κs =
-    let at-loop = c .before .before .before in
-    at-loop .before .before .before .pre .0
+times-in-requires c κs = search needs
 
 slice-write-to : tie.Need-slice-write-to Inv-loop μ-loop
 slice-write-to c = search needs
@@ -47,24 +45,23 @@ loop-again : tie.Need-loop-again Inv-loop μ-loop
 loop-again c =
     let at-loop = c .before .before .before .before in
     let now = at-loop .loop in
-    let given = at-loop .before .before .before .args in
-    let a = factor (given .low .now) in
-    let product = c .times-in .ensures ∙ ap (λ (s : F). a ⊙ s) (sym (read-at of 0 (given .from .now) (now .q))) in
-    let sum = bytes-xor (now .to) (now .q) _ ∙ ap (λ (s : F). bytes (now .to) (now .q) ⊕ s) product in (
+    let read = sym (read-at of 0 (at-loop .before .before .before .args .from .now) (now .q)) in (
       omega arith,
       length-set (now .to) _ _ ∙ now .inv .1,
-      multiple-more (now .to) (now .q) _ a _ _ (omega arith) (now .inv .2) sum,
+      λ a t. multiple-more (now .to) (now .q) _ a _ _ (omega arith) (now .inv .2 a t)
+          (bytes-xor (now .to) (now .q) _
+          ∙ ap (λ (s : F). bytes (now .to) (now .q) ⊕ s) (c .times-in .ensures a t ∙ ap (λ (s : F). a ⊙ s) read)),
     )
 
 same-length : tie.Need-same-length Inv-loop μ-loop
 same-length c = c .before .loop .inv .1
 
 returns : tie.Need-returns Inv-loop μ-loop
-returns c =
+returns c a tables =
     let at-loop = c .before in
     let given = at-loop .before .before .before in
-    at-loop .loop .inv .2
-    ∙ multiple-all (at-loop .loop .q) _ _ (given .args .from .now) (omega (arith, given .pre .1))
+    at-loop .loop .inv .2 a tables
+    ∙ multiple-all (at-loop .loop .q) _ _ (given .args .from .now) (omega (arith, given .pre))
 
 pub add-multiple-spec : {M : Type 1} → statement M
 add-multiple-spec =

@@ -1,8 +1,7 @@
 -- Both are the product of c and x, and a value has one byte.
 use Prim.Native.Nat.{_<_}
-use mathlib.Core.Path.{_≡_, sym, ap, _∙_}
-use Rattle.field.specs.Field.{F, _⊙_, val, val-inj}
-use Rattle.kernel.specs.Halves.{halved-factor, halved-own}
+use mathlib.Core.Path.{sym, _∙_}
+use Rattle.field.specs.Field.{val, val-inj}
 use borrow.Author.Needs.{needs}
 use Rattle.kernel.proofs.halves.both.Statement.{statement}
 use Rattle.kernel.proofs.halves.both.Tie as tie
@@ -11,7 +10,7 @@ split-requires : tie.Need-split-requires
 split-requires c κs = search needs
 
 times-requires : tie.Need-times-requires
-times-requires c κs = halved-own (c .split .ensures)
+times-requires c κs = search needs
 
 product-requires : tie.Need-product-requires
 product-requires c κs = search needs
@@ -21,8 +20,7 @@ returns c =
     let made = c .before .before in
     let given = made .before .args in
     let halves = c .before .times in
-    let product : val (halves .result) ≡ val (given .c) ⊙ val (given .x) =
-    halves .ensures ∙ ap (λ (a : F). a ⊙ val (given .x)) (halved-factor (made .split .ensures)) in
+    let product = halves .ensures (val (given .c)) (made .split .ensures) in
     let small : halves .result .0 < 256 = search needs in
     (val-inj (halves .result) (c .product .result) small (search needs) (product ∙ sym (c .product .ensures)), product)
 

@@ -1,7 +1,6 @@
 -- The sum of two entries.
 use mathlib.Core.Path.{ap, _∙_}
-use Rattle.field.specs.Field.{F, _⊙_, of}
-use Rattle.kernel.specs.ProductRow.{factor}
+use Rattle.field.specs.Field.{_⊙_, of}
 use Rattle.kernel.specs.Halves.{halved-product}
 use borrow.Author.Needs.{needs}
 use Rattle.kernel.proofs.halves.times_in.Statement.{statement}
@@ -17,12 +16,9 @@ element-copy-out-result-2 : tie.Need-element-copy-out-result-2
 element-copy-out-result-2 c = search needs
 
 returns : tie.Need-returns
-returns c =
-    let at-index = c .before .before in
-    let given = at-index .before in
-    let index = at-index .index in
-    halved-product (index .result) (given .pre) (index .ensures .1)
-    ∙ ap (λ n. factor (given .args .low .now) ⊙ of n) (index .ensures .0)
+returns c a tables =
+    let index = c .before .before .index in
+    halved-product (index .result) tables (index .ensures .1) ∙ ap (λ n. a ⊙ of n) (index .ensures .0)
 
 pub times-in-spec : {M : Type 1} → statement M
 times-in-spec =
