@@ -10,7 +10,7 @@ pub use Rattle.field.specs.Byte.{of-byte, byte-of, byte-lt, byte-inj, of
 pub use Rattle.field.specs.Byte.{of-two, byte-zero, of-nonzero, _≟_, isZero-yes, isZero-no, isZero-true}
 pub use Rattle.field.specs.Byte.{isZero-false, val-of, val-inj, val-zero, val-one, val-alpha, val-is-zero}
 pub use Rattle.field.specs.Byte.{val-nonzero}
-pub use Rattle.field.specs.Double.{of-twice, of-double, of-high, of-mod}
+pub use Rattle.field.specs.Double.{of-twice, of-double, of-high, of-parts, of-mod}
 pub use Rattle.field.specs.Power.{pow-zero, pow-suc, pow-one, pow-add, pow-mul, one-pow, pow-⊙}
 pub use Rattle.field.specs.Log.{log-lt, pow-log, log-pow, powerTable-at, powerTable-last}
 pub use Rattle.field.specs.Inverse.{pow-255, mul-inv, inv-mul, inv-zero, inv-unique, inv-nonzero}

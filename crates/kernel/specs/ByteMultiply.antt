@@ -4,14 +4,12 @@
 --
 -- Proved: a bit times a byte (pick-lt, of-pick); the first bit and the next one, which goes with half the double
 -- (times-first, times-more).
-use Prim.Native.Nat.{ℕ, _+_, _*_, _/_, _%_, _<_}
+use Prim.Native.Nat.{ℕ, _*_, _/_, _%_, _<_}
 use mathlib.Core.Path.{_≡_, sym, ap, ap₂, _∙_}
 use native.Mathlib.Decide.{ℕ-discrete}
 use native.Mathlib.Nat.{one-mul, zero-mul}
 use native.Mathlib.Omega.{arith}
-use lib.Bits.{xor-shifted}
-use Rattle.field.specs.Field.{F, α, _⊕_, _⊙_, of, of-xor, of-zero, of-one, of-double, zero-⊕}
-use Rattle.field.specs.Field.{zero-⊙, one-⊙, ⊙-ring}
+use Rattle.field.specs.Field.{F, α, _⊕_, _⊙_, of, of-zero, of-one, of-two, of-parts, zero-⊕, zero-⊙, one-⊙, ⊙-ring}
 
 abbrev pub Times : ℕ → ℕ → ℕ → Type 0
 Times a m p = of p ≡ of m ⊙ of a
@@ -30,15 +28,6 @@ of-pick t a h = go (ℕ-discrete t 0)
     go (yes e) = rw (e, zero-mul, of-zero) (sym (zero-⊙ (of a)))
     go (no n) = let e : t ≡ 1 = omega arith in rw (e, one-mul, of-one) (sym (one-⊙ (of a)))
 
--- the last bit of m, and what stands above it
-last-bit : (m : ℕ) → m < 256 → of m ≡ α ⊙ of (m / 2) ⊕ of (m % 2)
-last-bit m h =
-    let e : m / 2 * 2 + m % 2 ≡ m = omega arith in
-    let d : m / 2 * 2 ≡ m / 2 + m / 2 = omega arith in
-    sym (ap of (xor-shifted (m / 2) 1 (m % 2) (omega arith) ∙ e))
-    ∙ of-xor (m / 2 * 2) (m % 2)
-    ∙ ap (λ (s : F). s ⊕ of (m % 2)) (ap of d ∙ of-double (m / 2) (omega arith))
-
 pub times-first : (a m p t : ℕ) → of p ≡ of 0 ⊕ of t ⊙ of a → t ≡ m → Times a m p
 times-first a m p t e h = e ∙ rw (h, of-zero) (zero-⊕ _)
 
@@ -49,7 +38,8 @@ times-more a d k m p q t l high low twice h e =
     e
     ∙ ap₂ (λ (s : F) (b : ℕ). s ⊕ of b ⊙ of a) (h ∙ ap₂ (λ (b : ℕ) (s : F). of b ⊙ s) high twice) low
     ∙ shape (of (m / 2)) (of (m % 2)) (of a)
-    ∙ ap (λ (s : F). s ⊙ of a) (sym (last-bit m l))
+    ∙ ap (λ (s : F). (of (m % 2) ⊕ s ⊙ of (m / 2)) ⊙ of a) (sym of-two)
+    ∙ ap (λ (s : F). s ⊙ of a) (sym (of-parts 1 m (omega arith) l))
   where
-    shape : (h b x : F) → h ⊙ (α ⊙ x) ⊕ b ⊙ x ≡ (α ⊙ h ⊕ b) ⊙ x
+    shape : (h b x : F) → h ⊙ (α ⊙ x) ⊕ b ⊙ x ≡ (b ⊕ α ⊙ h) ⊙ x
     shape h b x = simp ⊙-ring

@@ -1,9 +1,9 @@
 -- Rows of products: a list of 256 bytes in which entry x is x times the row's factor.
 --
---   products c       the row of c as a series: x times c, for each byte x
---   factor l         the factor of the row l: its entry 1
---   ProductRow l            l is a row
---   Level n c w t l    the list l, of n entries, has the first w of the row of c, w and n powers of two; t is w times c
+--   products c        the row of c as a series: x times c, for each byte x
+--   factor l          the factor of the row l: its entry 1
+--   ProductRow l      l is a row
+--   Level n c w t l   l, of n entries, has the first w of the row of c; w and n are powers of two, and t is w times c
 --
 -- Proved: the first 256 products of c are a row with the factor c (row-products, factor-products). A loop that doubles
 -- w goes on by level-more: entry w + i is entry i and w times c.
