@@ -10,15 +10,12 @@
 #include <string.h>
 #include <time.h>
 
-typedef void multiple(uint8_t c, const uint8_t *from, size_t n, uint8_t *to, size_t m);
-typedef uint8_t value(uint8_t w, const uint8_t *word, size_t n);
-extern multiple multiple_by_row, multiple_by_halves, multiple_by_bits;
-extern value value_by_row, value_by_halves, value_by_bits;
+/* Of the crate bench_products: by a row if way is 0, by half bytes if it is 1, by bits if it is 2. */
+extern void multiple(uint8_t way, uint8_t c, const uint8_t *from, size_t n, uint8_t *to, size_t m);
+extern uint8_t value(uint8_t way, uint8_t w, const uint8_t *word, size_t n);
 
 enum { WAYS = 3, N = 255, CALLS = 2000, BATCHES = 60 };
 
-static multiple *const multiples[WAYS] = { multiple_by_row, multiple_by_halves, multiple_by_bits };
-static value *const values[WAYS] = { value_by_row, value_by_halves, value_by_bits };
 static uint8_t from[N], to[N];
 static volatile uint8_t sink;
 
@@ -48,30 +45,32 @@ static void check(int right, const char *what)
     }
 }
 
-/* All factors, and words of all lengths up to n. */
+/* All factors, and words of all lengths up to N; words of different lengths are left as they are. */
 static void check_all(void)
 {
     for (int c = 0; c < 256; c++)
         for (int k = 0; k < WAYS; k++) {
-            size_t n = (size_t)c % (N + 1);
+            size_t n = c % (N + 1);
             uint8_t at = 0;
             for (int i = 0; i < N; i++) to[i] = 3 * i;
-            multiples[k](c, from, n, to, n);
+            multiple(k, c, from, n, to, n);
+            multiple(k, c, from, N, to, N - 1);
+            multiple(k, c, from, N - 1, to, N);
             for (size_t i = 0; i < N; i++)
                 check(to[i] == (uint8_t)(3 * i ^ (i < n ? product(c, from[i]) : 0)), "a multiple of a word");
             for (size_t i = n; i > 0; i--) at = product(c, at) ^ from[i - 1];
-            check(values[k](c, from, n) == at, "the value of a word");
+            check(value(k, c, from, n) == at, "the value of a word");
         }
 }
 
 static void multiply(int k, size_t n)
 {
-    for (int i = 0; i < CALLS; i++) multiples[k](i % 254 + 2, from, n, to, n);
+    for (int i = 0; i < CALLS; i++) multiple(k, i % 254 + 2, from, n, to, n);
 }
 
 static void evaluate(int k, size_t n)
 {
-    for (int i = 0; i < CALLS; i++) sink = values[k](i % 254 + 2, from, n);
+    for (int i = 0; i < CALLS; i++) sink = value(k, i % 254 + 2, from, n);
 }
 
 static void row(const char *name, void (*calls)(int, size_t), size_t n)

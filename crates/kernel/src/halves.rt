@@ -7,7 +7,7 @@ ghost use Rattle.field.specs.Field.{F, _⊙_, of, val};
 ghost use Rattle.series.specs.Series.{K, _⊞_, _⊠_};
 ghost use Rattle.series.specs.Value.{value};
 ghost use Rattle.series.specs.Array.{bytes};
-ghost use Rattle.kernel.specs.Halves.{Halved};
+ghost use Rattle.kernel.specs.Halves.{Halved, looked-up};
 use crate::row::fill;
 use field::Gf;
 
@@ -28,7 +28,8 @@ pub struct TwoWays {
 
 // The product of c and x, by lent tables of c.
 pub fn times_in<'a>(low: &'a [u8; HALF], high: &'a [u8; HALF], x: u8) -> u8
-    ensures { λ r. ⌜ ((c : F) → Halved c (now (low .entry)) (now (high .entry)) → of r ≡ c ⊙ of x) ⌝ }
+    ensures entries { λ r. ⌜ of r ≡ looked-up (now (low .entry)) (now (high .entry)) x ⌝ }
+    ensures product { λ r. ⌜ ((c : F) → Halved c (now (low .entry)) (now (high .entry)) → of r ≡ c ⊙ of x) ⌝ }
 {
     let b = crate::byte::index(x);
     low[b % HALF] ^ high[b / HALF]
@@ -52,7 +53,8 @@ impl Halves {
 
     // The product with x, zero included. A loop lends the tables to `times_in`: a struct by value is copied each time.
     pub fn times(self, x: Gf) -> Gf
-        ensures { λ r. ⌜ ((c : F) → Halved c (self .low) (self .high) → val r ≡ c ⊙ val x) ⌝ }
+        ensures entries { λ r. ⌜ val r ≡ looked-up (self .low) (self .high) (x .0) ⌝ }
+        ensures product { λ r. ⌜ ((c : F) → Halved c (self .low) (self .high) → val r ≡ c ⊙ val x) ⌝ }
     {
         Gf(times_in(&self.low, &self.high, x.0))
     }

@@ -1,5 +1,5 @@
 -- The tables are those of w.
-use mathlib.Core.Path.{sym, ap, _∙_}
+use mathlib.Core.Path.{ap, _∙_}
 use lib.ListN.{length}
 use Rattle.field.specs.Field.{val-of}
 use Rattle.series.specs.Value.{value}
@@ -18,7 +18,7 @@ returns : tie.Need-returns
 returns c =
     let made = c .before .before .before .before in
     let word = made .before .before .args .word .now in
-    sym (val-of _) ∙ c .value .ensures _ (made .split .ensures) ∙ ap (value (length word) (bytes word)) (val-of _)
+    c .value .ensures _ (made .split .ensures) ∙ ap (value (length word) (bytes word)) (val-of _)
 
 pub value-by-halves-spec : {M : Type 1} → statement M
 value-by-halves-spec = tie.close (tie.spec split-requires value-requires returns)

@@ -1,5 +1,5 @@
 -- The row is that of w.
-use mathlib.Core.Path.{sym, ap, _∙_}
+use mathlib.Core.Path.{ap, _∙_}
 use lib.ListN.{length}
 use Rattle.field.specs.Field.{val-of}
 use Rattle.series.specs.Value.{value}
@@ -22,7 +22,7 @@ returns : tie.Need-returns
 returns c =
     let made = c .before .before in
     let word = made .before .before .args .word .now in
-    sym (val-of _) ∙ c .value .ensures
+    c .value .ensures
     ∙ ap (value (length word) (bytes word)) (factor-products _ _ (made .product-row .ensures) ∙ val-of _)
 
 pub value-by-row-spec : {M : Type 1} → statement M

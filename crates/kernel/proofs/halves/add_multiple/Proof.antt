@@ -50,7 +50,7 @@ loop-again c =
       length-set (now .to) _ _ ∙ now .inv .1,
       λ a t. multiple-more (now .to) (now .q) _ a _ _ (omega arith) (now .inv .2 a t)
           (bytes-xor (now .to) (now .q) _
-          ∙ ap (λ (s : F). bytes (now .to) (now .q) ⊕ s) (c .times-in .ensures a t ∙ ap (λ (s : F). a ⊙ s) read)),
+          ∙ ap (λ (s : F). bytes (now .to) (now .q) ⊕ s) (c .times-in .ensures .1 a t ∙ ap (λ (s : F). a ⊙ s) read)),
     )
 
 same-length : tie.Need-same-length Inv-loop μ-loop

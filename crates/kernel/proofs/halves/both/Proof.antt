@@ -20,7 +20,7 @@ returns c =
     let made = c .before .before in
     let given = made .before .args in
     let halves = c .before .times in
-    let product = halves .ensures (val (given .c)) (made .split .ensures) in
+    let product = halves .ensures .1 (val (given .c)) (made .split .ensures) in
     let small : halves .result .0 < 256 = search needs in
     (val-inj (halves .result) (c .product .result) small (search needs) (product ∙ sym (c .product .ensures)), product)
 

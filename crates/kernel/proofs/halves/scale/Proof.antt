@@ -45,7 +45,7 @@ loop-again c =
       omega arith,
       length-set (now .word) _ _ ∙ now .inv .1,
       λ a t. scaled-more (now .word) (now .j) _ a _ (omega arith) (now .inv .2 a t)
-          (c .times-in .ensures a t ∙ ap (λ (s : F). a ⊙ s) read),
+          (c .times-in .ensures .1 a t ∙ ap (λ (s : F). a ⊙ s) read),
     )
 
 same-length : tie.Need-same-length Inv-loop μ-loop

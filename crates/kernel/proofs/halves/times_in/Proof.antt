@@ -1,7 +1,6 @@
 -- The sum of two entries.
 use mathlib.Core.Path.{ap, _∙_}
-use Rattle.field.specs.Field.{_⊙_, of}
-use Rattle.kernel.specs.Halves.{halved-product}
+use Rattle.kernel.specs.Halves.{looked-up, looked-up-xor, halved-product}
 use borrow.Author.Needs.{needs}
 use Rattle.kernel.proofs.halves.times_in.Statement.{statement}
 use Rattle.kernel.proofs.halves.times_in.Tie as tie
@@ -16,9 +15,12 @@ element-copy-out-result-2 : tie.Need-element-copy-out-result-2
 element-copy-out-result-2 c = search needs
 
 returns : tie.Need-returns
-returns c a tables =
-    let index = c .before .before .index in
-    halved-product (index .result) tables (index .ensures .1) ∙ ap (λ n. a ⊙ of n) (index .ensures .0)
+returns c =
+    let at-index = c .before .before in
+    let given = at-index .before .args in
+    let e = at-index .index .ensures .0 in
+    let sum = looked-up-xor _ _ _ ∙ ap (looked-up (given .low .now) (given .high .now)) e in
+    (sum, λ a t. sum ∙ halved-product (given .x) t (search needs))
 
 pub times-in-spec : {M : Type 1} → statement M
 times-in-spec =

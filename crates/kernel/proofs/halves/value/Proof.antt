@@ -34,7 +34,7 @@ loop-less c = search needs
 loop-again : tie.Need-loop-again Inv-loop μ-loop
 loop-again c =
     let now = c .before .before .before .loop in
-    (omega arith, λ a t. horner-more _ (now .inv .1 a t) (omega arith) (c .before .times-in .ensures a t))
+    (omega arith, λ a t. horner-more _ (now .inv .1 a t) (omega arith) (c .before .times-in .ensures .1 a t))
 
 returns : tie.Need-returns Inv-loop μ-loop
 returns c a tables = val-of _ ∙ horner-all (c .before .loop .inv .1 a tables) (omega arith)

@@ -46,7 +46,7 @@ loop-again c =
     let now = c .before .before .before .loop in (
       length-set (now .out) _ _ ∙ now .inv .0,
       λ a t. filled-more _ (now .inv .1 a t) (omega arith)
-          (val-of _ ∙ c .times-in .ensures a t
+          (val-of _ ∙ c .times-in .ensures .1 a t
           ∙ sym (K-⊠-at _ _ _ ∙ ap (λ (s : F). a ⊙ s) (poly-at _ _ (omega arith) ∙ val-of _))),
     )
 

@@ -9,9 +9,10 @@ times-in-requires : tie.Need-times-in-requires
 times-in-requires c κs = search needs
 
 returns : tie.Need-returns
-returns c a tables =
+returns c =
     let given = c .before .before .before .before .args in
-    val-of _ ∙ c .times-in .ensures a tables ∙ ap (λ (s : F). a ⊙ s) (sym (val-of (given .x)))
+    let taken = c .times-in .ensures in
+    (val-of _ ∙ taken .0, λ a t. val-of _ ∙ taken .1 a t ∙ ap (λ (s : F). a ⊙ s) (sym (val-of (given .x))))
 
 pub times-spec : {M : Type 1} → statement M
 times-spec = tie.close (tie.spec times-in-requires returns)
