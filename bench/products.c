@@ -7,7 +7,6 @@
 #include <stdint.h>
 #include <stdio.h>
 #include <stdlib.h>
-#include <string.h>
 #include <time.h>
 
 /* Of the crate bench_products: by a row if way is 0, by half bytes if it is 1, by bits if it is 2. */
