@@ -51,7 +51,8 @@ module _ (f : Form) (want : ℕ → Series → Plain.State → Factors → f .St
   finish-is rounds =
       sym (run-end f rounds)
       ∙ run-is f want keeps rounds (length (events rounds))
-      ∙ ap₂ (wanted f want (joined rounds)) (end-entered rounds) (end-iterations rounds)
+      ∙ ap₂ (wanted f want (joined rounds)) (end-entered rounds)
+      (end-iterations rounds (length (events rounds)) (omega arith))
 
   pub finish-joined : (rounds others : List (List F)) → joined rounds ≡ joined others
       → finish f rounds ≡ finish f others

@@ -4,7 +4,8 @@
 --   k-of r L   r − 2L
 --
 -- Proved: k at the start, at a hold (the length stays) and at a swap (it becomes r + 1 − L); an iteration is a swap if
--- its discrepancy is not 0 and 2L ≤ r; L is the length that `len` reads from k.
+-- its discrepancy is not 0 and 2L ≤ r; L is the length that `len` reads from k (len-of), and no other number has its k
+-- (k-of-length).
 use Prim.Native.Nat.{ℕ, zero, suc, _+_, _-_, _≤_, _<_, _/_}
 use mathlib.Core.Path.{_≡_, refl, sym, ap, ap₂, _∙_}
 use mathlib.Core.Logic.{_≢_}
@@ -12,7 +13,7 @@ use mathlib.Core.Bool.{true, false, not, _&&_, and-false}
 use native.Mathlib.Omega.{arith}
 use native.Mathlib.Decide.{decLe}
 use lib.IntN.{ℤ, pos, negsuc, subℕ, _-ℤ_, +ℤ-negℤ-cancel, +ℤ-one, -ℤ-one}
-use lib.Signed.{nonNeg, quotZ}
+use lib.Signed.{nonNeg, quotZ, mag}
 use lib.Dec.{leb}
 use borrow.Author.Tests.{le-leb, lt-leb, lt-ltb, le-ltb}
 use Rattle.field.specs.Field.{F, 𝟎, isZero, isZero-yes, isZero-no}
@@ -98,3 +99,6 @@ len-of r L = by-sign _ r L
 
     half : pos ((L + L) / 2) ≡ pos L
     half = let e : (L + L) / 2 ≡ L = omega arith in ap pos e
+
+pub k-of-length : (r l L : ℕ) (k : ℤ) → k-of r l ≡ k → len r k ≡ pos L → l ≡ L
+k-of-length r l L k e is = ap mag (sym (len-of r l) ∙ ap (len r) e ∙ is)

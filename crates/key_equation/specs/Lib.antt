@@ -1,5 +1,5 @@
 -- Shared to Claim are the definitions, in the order of FORMAT 8; the others prove: Length to Ends that the forms agree,
--- Shortest what they find.
+-- Shortest what they find. Recurrence defines and proves what the length tells.
 pub mod Shared
 pub mod Plain
 pub mod Lookahead
@@ -15,3 +15,4 @@ pub mod Walk
 pub mod Agreement
 pub mod Ends
 pub mod Shortest
+pub mod Recurrence

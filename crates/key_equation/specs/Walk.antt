@@ -15,7 +15,7 @@ use mathlib.Core.List.{List, [], _∷_, _++_, append-assoc, append-nil}
 use native.Mathlib.Omega.{arith}
 use native.Mathlib.Nat.{add-zero, zero-add, suc-add, add-suc}
 use lib.ListN.{length, take, replicate, length-append, List·getD-append}
-use lib.Seq.{take-length}
+use lib.Seq.{take-length, take-all}
 use Rattle.field.specs.Field.{F, 𝟎, 𝟏}
 use Rattle.series.specs.Series.{Series}
 use Rattle.series.specs.Word.{entry, entry-is, entry-past}
@@ -170,9 +170,10 @@ pub iterations-le : (rounds : List (List F)) (k : ℕ) → iterations rounds k �
 unfolding iterations
 iterations-le rounds k = omega (arith, few k (events rounds), all-counted rounds)
 
-pub end-iterations : (rounds : List (List F)) → iterations rounds (length (events rounds)) ≡ length (joined rounds)
+pub end-iterations : (rounds : List (List F)) (k : ℕ) → length (events rounds) ≤ k
+    → iterations rounds k ≡ length (joined rounds)
 unfolding iterations
-end-iterations rounds = ap count (take-length (events rounds)) ∙ all-counted rounds
+end-iterations rounds k h = ap count (take-all k (events rounds) h) ∙ all-counted rounds
 
 pub end-entered : (rounds : List (List F)) → entered (take (length (events rounds)) (events rounds)) ≡ joined rounds
 end-entered rounds = ap entered (take-length (events rounds)) ∙ all-entered rounds

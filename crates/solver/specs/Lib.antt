@@ -1,4 +1,5 @@
 pub mod Solver
+pub mod SolverLength
 pub mod SwapStep
 pub mod SwapSigned
 pub mod SwapIterations

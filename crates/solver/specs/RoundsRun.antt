@@ -7,7 +7,7 @@
 --   Ran f rounds k p       what `run` promises
 --
 -- Proved: every list of rounds with at most 48 syndromes can be lent (lent); where the code is where the run of the
--- definitions is, the claim holds (ran).
+-- definitions is, the claim holds (ran); the solver of a run is where the run is (ran-stands).
 use Prim.Native.Nat.{ℕ, _≤_, _<_, min}
 use mathlib.Core.Path.{_≡_, refl, sym, ap, ap₂, _∙_, subst}
 use mathlib.Core.Bool.{false}
@@ -27,6 +27,7 @@ use Rattle.key_equation.specs.Agreement.{agreement}
 use Rattle.solver.specs.declared.Form.{Form}
 use Rattle.solver.specs.declared.Form.the-variants.{Plain, Lookahead, Scaled}
 use Rattle.solver.specs.Solver.{form-of, state-of, Idle}
+use Rattle.solver.specs.SolverLength.{Stands}
 use Rattle.solver.specs.declared.rounds.Progress.{Progress}
 use Rattle.solver.specs.Rounds.{cut-rounds, cut-joined}
 
@@ -124,3 +125,10 @@ ran f rounds k p e is idle = record {
   claim = subst (Claimed f rounds k) (sym is) (claimed f rounds k);
   others = idle;
 }
+
+pub ran-stands : (f : Form) (rounds : List (List F)) (k : ℕ) (p : Progress) → Ran f rounds k p
+    → Stands f rounds k (p .solver)
+ran-stands f rounds k p x = (
+  x .form,
+  ap (λ r. state-of f r (p .solver)) (sym (x .iterations)) ∙ ap (λ (q : Run.At (form-of f)). q .state) (x .is),
+)

@@ -8,10 +8,13 @@ mod swap;
 
 ghost use Prim.Native.Nat.{ℕ, _+_, _-_};
 ghost use mathlib.Core.Path.{_≡_};
+ghost use mathlib.Core.List.{List};
+ghost use Rattle.field.specs.Field.{F};
 ghost use Rattle.polynomial.specs.Polynomial.{row};
-ghost use Rattle.key_equation.specs.Length.{k-of};
+ghost use Rattle.key_equation.specs.Recurrence.{ComplexityAfter};
 ghost use Rattle.solver.specs.Solver.{form-of, Is, with-plain, with-lookahead, with-scaled, Kept, Fresh};
 ghost use Rattle.solver.specs.Solver.{clip, iterate-clipped, iterated, k-in};
+ghost use Rattle.solver.specs.SolverLength.{HasLength, Stands};
 use crate::lookahead::Lookahead;
 use crate::plain::Plain;
 use crate::scaled::Scaled;
@@ -167,9 +170,12 @@ impl Solver {
         }
     }
 
-    // The length L: after r iterations k is r - 2L.
+    // The length L: after r iterations k is r - 2L. At every point of a run L is the linear complexity of the syndromes
+    // that were iterated over: FORMAT 8.18.
     pub fn length(self) -> u16
-        ensures { λ l. ⌜ ((r : ℕ) (f : Form) (m : form-of f .State) → Is f r self m → k-of r l ≡ k-in f m) ⌝ }
+        ensures { λ l. ⌜ HasLength self l ⌝ }
+        ensures least { λ l. ⌜ ((f : Form) (rounds : List (List F)) (k : ℕ) → Stands f rounds k self
+            → ComplexityAfter rounds k l) ⌝ }
     {
         let form = self.form;
         let p = self.plain;

@@ -6,6 +6,8 @@ ghost use lib.ListN.{length, getD, take};
 ghost use lib.Dec.{leb};
 ghost use Rattle.series.specs.Word.{entry};
 ghost use Rattle.polynomial.specs.Polynomial.{row};
+ghost use Rattle.key_equation.specs.Run.{events as Events};
+ghost use Rattle.key_equation.specs.Recurrence.{ComplexityAfter, Complexity};
 ghost use Rattle.solver.specs.RoundsRun.{syndromes-of, rounds-of, Ran};
 ghost use Rattle.solver.specs.RoundsEvent.{Going, Arrived};
 use crate::Form;
@@ -143,4 +145,17 @@ pub fn run(form: Form, syndromes: &[u8], lengths: &[u8], events: usize) -> Progr
         n = n + 1;
     }
     w.progress
+}
+
+// The length of the run after its first `events` entries and iterations: the linear complexity of the syndromes that it
+// has iterated over by then, and after all of its events that of all its syndromes, in whatever form and rounds: FORMAT
+// 8.18.
+pub fn linear_complexity(form: Form, syndromes: &[u8], lengths: &[u8], events: usize) -> u16
+    ensures { λ l. ⌜ ComplexityAfter (rounds-of (now (syndromes .entry)) (now (lengths .entry))) events l ⌝ }
+    ensures whole { λ l. ⌜ (length (Events (rounds-of (now (syndromes .entry)) (now (lengths .entry)))) ≤ events
+        → Complexity (rounds-of (now (syndromes .entry)) (now (lengths .entry))) l) ⌝ }
+{
+    let end = run(form, syndromes, lengths, events);
+    let solver = end.solver;
+    solver.length()
 }

@@ -13,7 +13,8 @@ k-requires : tie.Need-k-requires
 k-requires c κs = search needs
 
 returns : tie.Need-returns
-returns c f m h = toZ-ofZ {w = w32} (record { sfits = c .k .ok }) ∙ c .k .ensures ∙ c .before .length .ensures _ f m h
+returns c f m h =
+    toZ-ofZ {w = w32} (record { sfits = c .k .ok }) ∙ c .k .ensures ∙ c .before .length .ensures .0 _ f m h
 
 pub k-spec : {M : Type 1} → statement M
 k-spec = tie.close (tie.spec length-requires k-requires returns)

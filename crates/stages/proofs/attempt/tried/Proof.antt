@@ -21,7 +21,7 @@ returns c = (
   c .settle .ensures .0,
   λ f rounds ended are. c .settle .ensures .1
       (ended-locator rounds _ _ are f _ ended _ (c .before .before .locator .ensures))
-      (ended-length rounds _ _ are f _ ended _ (c .before .length .ensures)),
+      (ended-length rounds _ _ are f _ ended _ (c .before .length .ensures .0)),
 )
 
 pub tried-spec : {M : Type 1} → statement M
