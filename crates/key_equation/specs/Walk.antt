@@ -8,7 +8,7 @@
 --
 -- Proved: how many iterations a run has had (run-r); where every run is, as one equation (run-is); how far it has come
 -- (iterations-le), and what its end is (end-iterations, end-entered).
-use Prim.Native.Nat.{ℕ, zero, suc, _+_, _≤_}
+use Prim.Native.Nat.{ℕ, zero, suc, _+_, _≤_, _<_}
 use mathlib.Core.Path.{_≡_, refl, sym, ap, _∙_}
 use mathlib.Core.Logic.{_≢_}
 use mathlib.Core.List.{List, [], _∷_, _++_, append-assoc, append-nil}
@@ -158,6 +158,25 @@ all-entered (round ∷ rest) = ap (λ t. round ++ t) (skip (length round) ∙ al
     skip : (n : ℕ) → entered (replicate n iteration ++ events rest) ≡ entered (events rest)
     skip zero = refl
     skip (suc n) = skip n
+
+-- n iterations are left of the round, then come the rounds: what is known holds as far as it is iterated over
+known-agrees : (k n : ℕ) (rounds : List (List F)) (known : List F) (i : ℕ)
+    → let es = take k (replicate n iteration ++ events rounds) in
+    i + n < length known + count es → entry (known ++ entered es) i ≡ entry (known ++ joined rounds) i
+unfolding events joined entered count
+known-agrees zero n rounds known i h =
+    rw append-nil (entry-append known (joined rounds) i (omega arith))
+known-agrees (suc k) zero [] known i h = refl
+known-agrees (suc k) zero (round ∷ rest) known i h =
+    let es = take k (replicate (length round) iteration ++ events rest) in
+    ap (λ l. entry l i) (sym (append-assoc known round (entered es)))
+    ∙ known-agrees k (length round) rest (known ++ round) i (omega (arith, length-append known round))
+    ∙ ap (λ l. entry l i) (append-assoc known round (joined rest))
+known-agrees (suc k) (suc n) rounds known i h = known-agrees k n rounds known i (omega arith)
+
+pub so-far-agrees : (rounds : List (List F)) (k : ℕ) → Agree (iterations rounds k) (so-far rounds k) (entry (joined rounds))
+unfolding iterations so-far
+so-far-agrees rounds k i h = known-agrees k 0 rounds [] i (omega arith)
 
 few : (k : ℕ) (es : List Event) → count (take k es) ≤ count es
 unfolding count

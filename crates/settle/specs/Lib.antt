@@ -7,7 +7,6 @@ pub mod NumeratorProduct
 pub mod PositionsTerm
 pub mod PositionsExponent
 pub mod PositionsThird
--- candidate: CandidateLocated names what `locate` promises; CandidateOdd and CandidateOne hold what it goes by.
-pub mod CandidateOdd
+-- candidate: CandidateLocated names what `locate` promises; CandidateOne holds what it goes by.
 pub mod CandidateLocated
 pub mod CandidateOne

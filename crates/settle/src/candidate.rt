@@ -7,13 +7,11 @@ ghost use mathlib.Core.Path.{_≡_};
 ghost use mathlib.Core.Logic.{_≢_};
 ghost use lib.ListN.{length};
 ghost use Rattle.field.specs.Field.{𝟎, _⊙_, inv, val};
-ghost use Rattle.series.specs.Shift.{cut};
-ghost use Rattle.series.specs.Value.{value, odd};
+ghost use Rattle.series.specs.Value.{value};
 ghost use Rattle.series.specs.Array.{bytes};
 ghost use Rattle.polynomial.specs.Polynomial.{poly};
 ghost use Rattle.settling.specs.Locator.{W};
 ghost use Rattle.settle.specs.CandidateLocated.{Walked};
-use crate::TERMS;
 use field::Exponent;
 use field::Gf;
 use polynomial::COEFFICIENTS;
@@ -23,21 +21,6 @@ use profile::POSITIONS;
 pub struct Located {
     pub whole: bool,
     pub pattern: [Gf; POSITIONS],
-}
-
-// The first k coefficients, those of even powers zero.
-fn odd_part(f: [Gf; COEFFICIENTS], k: usize) -> [u8; TERMS]
-    requires { ⌜ k ≤ 25 ⌝ }
-    ensures { λ r. ⌜ bytes r ≡ cut k (odd (poly f)) ⌝ }
-{
-    let mut out = [0u8; TERMS];
-    let mut i: usize = 1;
-    while i < k {
-        let g = f[i];
-        out[i] = g.0;
-        i = i + 2;
-    }
-    out
 }
 
 // Forney's formula at position p: one row of products serves both values. Every root comes here, so the two products
@@ -65,7 +48,7 @@ fn walk(locator: [Gf; COEFFICIENTS], numerator: &[u8], roots: usize, n: usize) -
 {
     let k = roots + 1;
     let values = crate::positions::at_positions(locator, k);
-    let odds = odd_part(locator, k);
+    let odds = polynomial::coefficients::odd(locator, k);
     let mut pattern = [Gf::ZERO; POSITIONS];
     let mut missing: usize = roots;
     let mut p: usize = 0;

@@ -7,9 +7,9 @@
 --   twist f e                each symbol of e times its multiplier; untwist f e: times the inverse one
 --   untwisted f n o          a pattern of n symbols untwisted, if there is one
 --
--- Proved: twisting undoes untwisting (twist-untwist), makes no symbol zero (twist-zero) and keeps how many are not
--- (weight-twist, weight-untwist); the syndromes are as said (syndrome-twist); the inverse multiplier as a power of α
--- (inverse-multiplier-is).
+-- Proved: twisting and untwisting undo one another (twist-untwist, untwist-twist); twisting makes no symbol zero
+-- (twist-zero) and keeps how many are not (weight-twist, weight-untwist); the syndromes are as said (syndrome-twist);
+-- the inverse multiplier as a power of α (inverse-multiplier-is).
 use Prim.Native.Nat.{ℕ, zero, suc, _+_, _-_, _*_, _≤_}
 use mathlib.Core.Path.{_≡_, refl, sym, ap, ap₂, _∙_, fun-ext}
 use mathlib.Core.Logic.{_≢_, by-cases}
@@ -84,6 +84,11 @@ twist-untwist f e = fun-ext (λ p.
     let s : multiplier f p ⊙ (inverse-multiplier f p ⊙ e p) ≡ inverse-multiplier f p ⊙ multiplier f p ⊙ e p =
     simp ⊙-ring in
     s ∙ ap (λ t. t ⊙ e p) (multipliers f p) ∙ one-⊙ _)
+
+pub untwist-twist : (f : ℕ) (e : Series) → untwist f (twist f e) ≡ e
+unfolding twist untwist
+untwist-twist f e = fun-ext (λ p.
+    sym (⊙-assoc _ _ _) ∙ ap (λ t. t ⊙ e p) (multipliers f p) ∙ one-⊙ _)
 
 pub twist-zero : (f : ℕ) (e : Series) (p : ℕ) → twist f e p ≡ 𝟎 → e p ≡ 𝟎
 unfolding twist

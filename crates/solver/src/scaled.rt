@@ -43,7 +43,7 @@ struct Products {
 }
 
 // The symbol x, or 1 where d is 0.
-fn one_if_zero(d: Gf, x: Gf) -> Gf
+pub fn one_if_zero(d: Gf, x: Gf) -> Gf
     ensures { λ r. ⌜ val r ≡ cond (isZero (val d)) 𝟏 (val x) ⌝ }
 {
     if d.is_zero() {

@@ -11,26 +11,13 @@ ghost use lib.ListN.{length};
 use field::Gf;
 use kernel::index;
 use listing::text::put;
-use polynomial::SYNDROMES;
 use profile::POSITIONS;
 use settle::Settled;
 use solver::Form;
+use test_support::input;
 use test_support::output;
 use test_support::print;
 use test_support::state;
-
-// The syndromes, then zeros.
-fn row(syndromes: &[u8]) -> [Gf; SYNDROMES]
-    requires { ⌜ length (now syndromes) ≤ 48 ⌝ }
-{
-    let mut s = [Gf::ZERO; SYNDROMES];
-    let mut i: usize = 0;
-    while i < syndromes.len() {
-        s[i] = Gf(syndromes[i]);
-        i = i + 1;
-    }
-    s
-}
 
 // The syndromes are one round: its entry and an iteration for each.
 fn settle(form: Form, syndromes: &[u8], n: usize, t: usize, first: u8) -> Settled
@@ -44,7 +31,7 @@ fn settle(form: Form, syndromes: &[u8], n: usize, t: usize, first: u8) -> Settle
         first,
         solver::continuation::locator(s),
         s.length() as usize,
-        row(syndromes),
+        input::row(syndromes),
         n,
         t,
     )

@@ -1,7 +1,13 @@
 // Standard input, piece by piece. What is missing at its end is read as 0.
 ghost use Prim.Native.Nat.{_≤_, _<_};
+ghost use mathlib.Core.Path.{_≡_};
+ghost use lib.ListN.{length};
+ghost use Rattle.series.specs.Array.{bytes as Bytes};
+ghost use Rattle.polynomial.specs.Polynomial.{row as Row};
 ghost use Rattle.io.specs.Counts.{Counts};
+use field::Gf;
 use kernel::index;
+use polynomial::SYNDROMES;
 
 // The next byte.
 pub fn byte() -> usize
@@ -28,4 +34,18 @@ pub fn bytes(n: usize) -> [u8; 65536]
     let mut space = io::large_buffer();
     io::read_full(0, &mut space[..n]);
     space
+}
+
+// A row of the syndromes, then zeros.
+pub fn row(syndromes: &[u8]) -> [Gf; SYNDROMES]
+    requires { ⌜ length (now syndromes) ≤ 48 ⌝ }
+    ensures { λ r. ⌜ Row r ≡ Bytes (now (syndromes .entry)) ⌝ }
+{
+    let mut s = [Gf::ZERO; SYNDROMES];
+    let mut i: usize = 0;
+    while i < syndromes.len() {
+        s[i] = Gf(syndromes[i]);
+        i = i + 1;
+    }
+    s
 }

@@ -11,7 +11,7 @@ use Rattle.series.specs.Shift.{cut, cut-low}
 use Rattle.series.specs.Value.{value, odd}
 use Rattle.series.specs.Array.{values as Values, bytes, read-at, below-read}
 use Rattle.settling.specs.Locator.{W}
-use Rattle.settle.specs.CandidateOdd.{odds-value}
+use Rattle.polynomial.specs.CoefficientsOdd.{odds-value}
 use Rattle.settle.specs.CandidateLocated.{Walking, walking-start, walking-root}
 use Rattle.settle.specs.CandidateLocated.{walking-other, walked-all, walked-few}
 use borrow.Author.Needs.{needs}
@@ -32,8 +32,8 @@ add-k c = search needs
 at-positions-requires : tie.Need-at-positions-requires Inv-loop μ-loop
 at-positions-requires c κs = search needs
 
-odd-part-requires : tie.Need-odd-part-requires Inv-loop μ-loop
-odd-part-requires c κs = search needs
+odd-requires : tie.Need-odd-requires Inv-loop μ-loop
+odd-requires c κs = search needs
 
 loop-holds : tie.Need-loop-holds Inv-loop μ-loop
 loop-holds c = (search needs, λ Λ is odd-is. walking-start)
@@ -45,7 +45,7 @@ returns : tie.Need-returns Inv-loop μ-loop
 returns c =
     let now = c .before .before .loop in
     walked-few (now .inv .1 _ (c .before .before .before .before .at-positions .ensures)
-    (c .before .before .before .odd-part .ensures)) _ (now .inv .0) (omega arith)
+    (c .before .before .before .odd .ensures)) _ (now .inv .0) (omega arith)
 
 array-copy-out-v : tie.Need-array-copy-out-v Inv-loop μ-loop
 array-copy-out-v c = search needs
@@ -59,8 +59,8 @@ array-share-prefix-odds c = search needs
 slice-aggregate-forney : tie.Need-slice-aggregate-forney Inv-loop μ-loop
 slice-aggregate-forney c =
     let at-loop-test = c .before .before .before .before in
-    let at-odd-part = at-loop-test .before .before .before in
-    sym (length-take-le _ (at-odd-part .odd-part .result) (omega arith))
+    let at-odd = at-loop-test .before .before .before in
+    sym (length-take-le _ (at-odd .odd .result) (omega arith))
 
 forney-requires : tie.Need-forney-requires Inv-loop μ-loop
 forney-requires c κs = search needs
@@ -81,10 +81,10 @@ loop-again : tie.Need-loop-again Inv-loop μ-loop
 loop-again c =
     let turn = c .before .before .before .before in
     let at-loop = turn .before in
-    let at-odd-part = at-loop .before in
-    let given = at-odd-part .before .before .before in
+    let at-odd = at-loop .before in
+    let given = at-odd .before .before .before in
     let now = at-loop .loop in
-    let made = at-odd-part .odd-part .result in
+    let made = at-odd .odd .result in
     let test = sym (c .before .is-zero .ensures) in (
       omega arith,
       λ Λ is odd-is.
@@ -102,7 +102,7 @@ loop-again c =
 returns-2 : tie.Need-returns-2 Inv-loop μ-loop
 returns-2 c =
     let end = c .before .loop in
-    walked-all (end .inv .1 _ (c .before .before .before .at-positions .ensures) (c .before .before .odd-part .ensures))
+    walked-all (end .inv .1 _ (c .before .before .before .at-positions .ensures) (c .before .before .odd .ensures))
     _
     (end .inv .0) (omega arith)
 
@@ -114,7 +114,7 @@ walk-spec =
     μ-loop
     add-k
     at-positions-requires
-    odd-part-requires
+    odd-requires
     loop-holds
     sub-if1
     returns

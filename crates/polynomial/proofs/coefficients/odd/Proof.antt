@@ -7,20 +7,20 @@ use Rattle.field.specs.Field.{val-of}
 use Rattle.series.specs.Shift.{cut}
 use Rattle.series.specs.Value.{odd}
 use Rattle.series.specs.Array.{bytes}
 use Rattle.polynomial.specs.Polynomial.{poly, poly-at}
-use Rattle.settle.specs.CandidateOdd.{odds-none, odds-more, odds-all}
+use Rattle.polynomial.specs.CoefficientsOdd.{odds-none, odds-more, odds-all}
 use borrow.Author.Needs.{needs}
-use Rattle.settle.proofs.candidate.odd_part.Statement.{statement}
-use Rattle.settle.proofs.candidate.odd_part.Tie as tie
+use Rattle.polynomial.proofs.coefficients.odd.Statement.{statement}
+use Rattle.polynomial.proofs.coefficients.odd.Tie as tie
 
 abbrev Inv-loop : tie.InvT-loop
-Inv-loop k f out₀ i₀ out i = (i % 2 ≡ 1) × (i ≤ k + 1) × (length out ≡ 25) × (bytes out ≡ cut i (odd (poly f)))
+Inv-loop k f out₀ i₀ out i = (i % 2 ≡ 1) × (i ≤ k + 1) × (length out ≡ 49) × (bytes out ≡ cut i (odd (poly f)))
 
 abbrev μ-loop : tie.MeasureT-loop
 μ-loop k f out₀ i₀ out i = k + 1 - i
 
 loop-holds : tie.Need-loop-holds Inv-loop μ-loop
-loop-holds c = (search needs, search needs, search needs, odds-none 25 _)
+loop-holds c = (search needs, search needs, search needs, odds-none 49 _)
 
 array-copy-out-g : tie.Need-array-copy-out-g Inv-loop μ-loop
 array-copy-out-g c = search needs
@@ -50,8 +50,8 @@ returns c =
     let end = c .before .loop in
     end .inv .3 ∙ odds-all _ (end .i) _ (end .inv .0) (omega arith) (end .inv .1)
 
-pub odd-part-spec : {M : Type 1} → statement M
-odd-part-spec =
+pub odd-spec : {M : Type 1} → statement M
+odd-spec =
     tie.close
     (tie.spec
     Inv-loop
