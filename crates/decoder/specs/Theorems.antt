@@ -5,35 +5,39 @@
 --   Profiled b p n    the bytes b are an accepted profile p whose blocks have n bytes
 --   Accepts b y o     the reading is accepted: of which profile, with which block and report
 --   Reports p y e a   what the report of the reading a says of the input y and of e, what the output holds in the end
+--   Solved f p y e i s x   what the solver x of a corrected subword stands for
 --   Alike f g x e k a c   the readings a and c end alike, but for the solvers: each stands at the end of the rounds of
 --                     its subword, which x says, in its form
 --
 -- Proved: an accepted block is a codeword, always (read-accepts, read-codeword), and its report counts the changed
--- symbols and bits (read-reports); a block with right sizes is decoded as staged decoding says (reading-is,
+-- symbols and bits (read-reports), and holds for each corrected subword a solver that stands at the end of what its
+-- changes explain (read-solved); a block with right sizes is decoded as staged decoding says (reading-is,
 -- extraction-is); a written block is restored under the condition of FORMAT 6.11 (read-restores), and one that was not
 -- touched always (read-written); the answer is 8 exactly if decoding fails (read-fails), where no mistake is made
 -- exactly if too many subwords have too many changes (read-fails-exactly). Two readings of the same bytes that differ
 -- in the form alone end alike (alike).
-use Prim.Native.Nat.{ℕ, _≤_, _<_}
+use Prim.Native.Nat.{ℕ, _+_, _*_, _≤_, _<_}
 use mathlib.Core.Path.{_≡_, refl, sym, ap, _∙_, subst}
 use mathlib.Core.Bool.{not}
 use mathlib.Core.Logic.{_↔_}
 use mathlib.Core.List.{List, map}
+use native.Mathlib.Decide.{decLt}
 use native.Mathlib.Omega.{arith}
 use lib.Bits.{bitXor}
 use lib.Count.{ones}
 use lib.ListN.{length, getD}
-use Rattle.field.specs.Field.{byte, _≟_}
-use Rattle.series.specs.Series.{Series}
+use Rattle.field.specs.Field.{F, _⊕_, byte, _≟_}
+use Rattle.series.specs.Series.{Series, _⊞_, ⊞-at}
 use Rattle.series.specs.Shift.{cut, cut-low}
 use Rattle.series.specs.Array.{bytes, bytes-word, word-bytes}
-use Rattle.series.specs.Word.{word, word-cut}
+use Rattle.series.specs.Word.{entry, word, word-cut}
+use Rattle.key_equation.specs.Run.{joined}
 use Rattle.profile.specs.declared.Profile.{Profile}
 use Rattle.profile.specs.declared.Refusal.the-variants.{Unsettled}
 use Rattle.profile.specs.declared.Parsed.{Parsed}
 use Rattle.profile.specs.declared.Parsed.the-variants.{Accepted, Refused}
 use Rattle.profile.specs.declared.Answer.the-variants as answer
-use Rattle.profile.specs.Definition.{block-size, data-size}
+use Rattle.profile.specs.Definition.{capability, first-root, block-size, data-size}
 use Rattle.profile.specs.declared.questions.Caller.the-variants.{Decoder, Card}
 use Rattle.profile.specs.Questions.{profile-of, reading-of}
 use Rattle.profile.specs.QuestionsLaws.{admitted-profile}
@@ -41,7 +45,10 @@ use Rattle.profile.specs.Valid.{Valid, admitted-valid, reading-admitted, extrac
 use Rattle.series.specs.Decide.{holds}
 use Rattle.code.specs.Definition.{subword, Codeword}
 use Rattle.code.specs.Block.{Agree, agree-block, codeword-cong}
+use Rattle.settling.specs.Definition.{Explains}
+use Rattle.settling.specs.Settle.{explains-cong}
 use Rattle.solver.specs.declared.Form.{Form}
+use Rattle.solver.specs.declared.Solver.{Solver}
 use Rattle.solver.specs.ContinuationDefinition.{Ended}
 use Rattle.staged_decoding.specs.Definition as staged
 use Rattle.staged_decoding.specs.Definition.{Outcome, accepted, failed, foreign, decode}
@@ -49,13 +56,16 @@ use Rattle.staged_decoding.specs.Definition.{clean, count-of, clean-line, total
 use Rattle.staged_decoding.specs.Count.{count-cong, total-cong}
 use Rattle.staged_decoding.specs.Course.{Over, Fails, accepted-course, failed-course}
 use Rattle.staged_decoding.specs.Accepted.{accepted-codeword, accepted-count, accepted-line-bits, clean-bits}
-use Rattle.staged_decoding.specs.Accepted.{accepted-changed, accepted-bits, accepted-line-past}
+use Rattle.staged_decoding.specs.Accepted.{accepted-changed, accepted-bits, accepted-line-past, accepted-last}
+use Rattle.staged_decoding.specs.Accepted.{accepted-pattern, accepted-rounds, accepted-explains}
 use Rattle.staged_decoding.specs.Restorable.{Unmistaken, Restorable, TooMany, Restored}
 use Rattle.staged_decoding.specs.Restoring.{restoring-bytes}
 use Rattle.staged_decoding.specs.Failing.{failing-exactly}
 use Rattle.staged_decoding.specs.Clean.{untouched, decode-codeword}
+use Rattle.stages.specs.declared.report.Verdict.the-variants.{Corrected}
 use Rattle.stages.specs.declared.report.Line.{Line}
-use Rattle.stages.specs.Report.{says, Has, Tells}
+use Rattle.stages.specs.Report.{verdict-of, says, Has, Tells}
+use Rattle.stages.specs.Lines.{says-at}
 use Rattle.decoder.specs.declared.prepared.Reading.{Reading}
 use Rattle.decoder.specs.Definition.{Result, read, concluded, result-of, reading, extraction}
 use Rattle.decoder.specs.Definition.{answer-to, block-of, report-of, Gives}
@@ -199,6 +209,78 @@ read-reports f b y o e a g answered =
         last = subst (Over p (bytes y)) last (course .over);
       },
     )
+
+-- ---- corrected subwords
+
+-- what the report of a reading holds for a subword i that was corrected at stage s: a solver that stands at the end of
+-- rounds, 2 t_s syndromes in all, which are explained by what was received and what was written, y and e, added
+pub record Solved (f : Form) (p : Profile) (y e : List ℕ) (i s : ℕ) (solver : Solver) : Type 0 where
+  pub rounds : List (List F)
+  pub low : s ≤ p .nested
+  pub long : length (joined rounds) ≡ 2 * capability p s
+  pub ended : Ended f rounds solver
+  pub explains : Explains (first-root p) (capability p s) (p .length) (entry (joined rounds))
+      (subword (p .length) (bytes y ⊞ bytes e) i)
+
+pub read-solved : (f : Form) (b y o e : List ℕ) (a : Reading) → Gives f (reading b y (length o)) o e a
+    → a .answer ≡ answer.Accepted → ((i : ℕ) → getD b i 0 < 256)
+    → (p : Profile) → profile-of b ≡ Accepted p → (i c s : ℕ) (l : Line) → Has (a .report .lines) i l
+    → l .verdict ≡ Corrected c s
+    → Solved f p y e i s (l .solver)
+unfolding subword
+read-solved f b y o e a g answered small p profile i c s l has corrected = go (decLt i (p .subwords))
+  where
+    x : Accepts b y (length o)
+    x = read-accepts b y (length o) (sym (g .answer) ∙ answered)
+
+    same : x .p ≡ p
+    same = let e : Accepted (x .p) ≡ Accepted p = sym (x .profile) ∙ profile in cc
+
+    decoded : decode p (bytes y) ≡ accepted (x .block) (x .report)
+    decoded = subst (λ p. decode p (bytes y) ≡ accepted (x .block) (x .report)) same (x .decoded)
+
+    is : reading b y (length o) ≡ read p (x .block) (x .report)
+    is = x .is ∙ ap (λ p. read p (x .block) (x .report)) same
+
+    out : bytes e ≡ cut (block-size p) (x .block)
+    out = ap bytes (g .block ∙ ap (λ r. block-of r o) is) ∙ block-is p (x .block)
+
+    tells : Tells f (x .report) (a .report)
+    tells = subst (λ r. Tells f (report-of r) (a .report)) is (g .report)
+
+    verdict : x .report .line i .verdict ≡ staged.corrected c s
+    verdict = ap (λ (l : staged.Line). l .verdict) (sym (tells .lines i) ∙ says-at (a .report .lines) i l has)
+        ∙ ap verdict-of corrected
+
+    ok : Valid p
+    ok = admitted-valid Card b 0 0 0 p profile (omega (arith, small 2))
+
+    -- the block that went out has the same subwords
+    agree : i < p .subwords → (q : ℕ) → q < p .length
+        → subword (p .length) (bytes y ⊞ x .block) i q ≡ subword (p .length) (bytes y ⊞ bytes e) i q
+    agree h q l =
+        ⊞-at (bytes y) (x .block) (i * p .length + q) ∙ ap (λ t. bytes y (i * p .length + q) ⊕ t)
+        (cut-agrees p (x .block) i (omega arith) h q l ∙ ap (λ (s : Series). s (i * p .length + q)) (sym out))
+        ∙ sym (⊞-at (bytes y) (bytes e) (i * p .length + q))
+
+    go : Dec (i < p .subwords) → Solved f p y e i s (l .solver)
+    go (yes h) = record {
+      rounds = x .report .rounds i;
+      low = omega (
+        arith,
+        accepted-pattern p (bytes y) (x .block) (x .report) decoded ok i c s h verdict .0,
+        accepted-last p (bytes y) (x .block) (x .report) decoded,
+      );
+      long = accepted-rounds p (bytes y) (x .block) (x .report) decoded ok i c s h verdict;
+      ended = tells .solvers i l has;
+      explains = explains-cong (first-root p) (capability p s) (p .length) _ _ _ (agree h)
+          (accepted-explains p (bytes y) (x .block) (x .report) decoded ok i c s h verdict);
+    }
+    go (no h) =
+        let past = accepted-line-past p (bytes y) (x .block) (x .report) decoded i (omega arith) in
+        let e : staged.clean ≡ staged.corrected c s = sym (ap (λ (l : staged.Line). l .verdict) past) ∙ verdict in
+        let z : _≡_ {A = ℕ} 0 1 = cc in
+        absurd (omega arith)
 
 -- ---- restoring
 

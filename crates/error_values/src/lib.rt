@@ -113,7 +113,10 @@ pub fn by_evaluator(first: u8, s: Solver, k: u8, syndromes: [Gf; SYNDROMES], p: 
 {
     let locator = solver::continuation::locator(s);
     let n = iterations(k);
-    let top = product(inverse_power(p, 1), crate::omega::value(locator, syndromes, n, p));
+    let top = product(
+        inverse_power(p, 1),
+        crate::omega::value(locator, syndromes, n, p),
+    );
     let bottom = odd_value(locator, p);
     untwisted(first, p, product(top, bottom.inverse()))
 }

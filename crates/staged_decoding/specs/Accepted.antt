@@ -5,8 +5,8 @@
 -- which they do (accepted-line-bits), none if it is clean (clean-bits), and the changed symbols and bits are the sums
 -- of these (accepted-changed, accepted-bits); a line has at most 2,040 bits, and the report 16,320 (accepted-few); the
 -- last stage is at most v (accepted-last). The rounds of a corrected subword, joined, are syndromes that are settled,
--- at the stage of its line, by what the decoded subword differs by from the received one (accepted-pattern); a clean
--- one has none (clean-rounds). Lines that are no subword's are clean (accepted-line-past). Where every subword is
+-- at the stage of its line, by what the decoded subword differs by from the received one (accepted-pattern): as many as
+-- that stage has (accepted-rounds), and explained by it (accepted-explains); a clean one has none (clean-rounds). Lines that are no subword's are clean (accepted-line-past). Where every subword is
 -- settled no line has more than 8 × n bits (settled-bits).
 use Prim.Native.Nat.{ℕ, zero, suc, _*_, _≤_, _<_}
 use mathlib.Core.Path.{_≡_, refl, sym, ap, _∙_}
@@ -14,14 +14,16 @@ use mathlib.Core.List.{[]}
 use mathlib.Core.Option.{none, some, Option·getD}
 use native.Mathlib.Decide.{decLt}
 use native.Mathlib.Omega.{arith}
+use lib.ListN.{length}
 use Rattle.series.specs.Series.{Series, _⊞_}
-use Rattle.series.specs.Word.{entry, word, weight, entry-word, zero-weight}
+use Rattle.series.specs.Word.{entry, word, weight, length-word, entry-word, zero-weight}
 use Rattle.key_equation.specs.Run.{joined}
 use Rattle.profile.specs.declared.Profile.{Profile}
 use Rattle.profile.specs.Definition.{capability, first-root, block-size}
 use Rattle.profile.specs.Valid.{Valid}
 use Rattle.code.specs.Definition.{subword, Codeword}
-use Rattle.settling.specs.Settle.{settle-one, settle-cong}
+use Rattle.settling.specs.Definition.{Explains}
+use Rattle.settling.specs.Settle.{settle-some, settle-one, settle-cong, explains-cong}
 use Rattle.staged_decoding.specs.Definition as staged
 use Rattle.staged_decoding.specs.Definition.{total, Verdict, clean, corrected, count-of, stage-of, Line}
 use Rattle.staged_decoding.specs.Definition.{clean-line, bit-weight, settle-at, Progress, start, line-at}
@@ -147,41 +149,51 @@ module _ (p : Profile) (y d : Series) (x : Report) (e : decode p y ≡ accepted 
   pub accepted-last : x .last ≤ p .nested
   accepted-last = omega (arith, last-is, a .over .low)
 
-  pub accepted-pattern : Valid p → (i k s : ℕ) → i < p .subwords → x .line i .verdict ≡ corrected k s
-      → (s ≤ x .last) × (settle-at p s (entry (joined (x .rounds i)))
-      ≡ some (word (p .length) (subword (p .length) (y ⊞ d) i)))
-  unfolding report
-  accepted-pattern ok i k s h f = (
-    omega (arith, at-stage, last-is, x-settled .passed),
-    ap (settle-at p s) rounds ∙ agree ∙ settles,
-  )
-    where
-      x-settled : Settled p y (suc (a .last)) g i (x .line i)
-      x-settled = settled i h
+  -- a subword that was corrected at stage s
+  module _ (ok : Valid p) (i k s : ℕ) (h : i < p .subwords) (f : x .line i .verdict ≡ corrected k s) where
+    x-settled : Settled p y (suc (a .last)) g i (x .line i)
+    x-settled = settled i h
 
-      at-stage : x-settled .stage ≡ s
-      at-stage =
-          sym (verdict-at-is (x-settled .stage) (changes i) .1)
-          ∙ ap stage-of (ap (λ (l : Line). l .verdict) (sym (x-settled .line-is)) ∙ f)
+    at-stage : x-settled .stage ≡ s
+    at-stage =
+        sym (verdict-at-is (x-settled .stage) (changes i) .1)
+        ∙ ap stage-of (ap (λ (l : Line). l .verdict) (sym (x-settled .line-is)) ∙ f)
 
-      s-low : s ≤ p .nested
-      s-low = omega (arith, at-stage, x-settled .passed, a .over .low)
+    s-low : s ≤ p .nested
+    s-low = omega (arith, at-stage, x-settled .passed, a .over .low)
 
-      rounds : entry (joined (x .rounds i)) ≡ entry (word (2 * capability p s) (g .row i))
-      rounds =
-          ap (λ (x : Report). entry (joined (x .rounds i))) (a .says)
-          ∙ ap (λ v. entry (joined (line-rounds p (g .row i) v))) (verdict-is i (corrected k s) f)
-          ∙ ap entry (rounds-joined p ok (g .row i) s s-low)
+    rounds-are : joined (x .rounds i) ≡ word (2 * capability p s) (g .row i)
+    unfolding report
+    rounds-are =
+        ap (λ (x : Report). joined (x .rounds i)) (a .says)
+        ∙ ap (λ v. joined (line-rounds p (g .row i) v)) (verdict-is i (corrected k s) f)
+        ∙ rounds-joined p ok (g .row i) s s-low
 
-      agree : settle-at p s (entry (word (2 * capability p s) (g .row i)))
-          ≡ settle-at p s (g .row i)
-      agree = settle-cong (first-root p) (capability p s) (p .length) _ _ (λ j l. entry-word _ (g .row i) j l)
+    agree : settle-at p s (entry (word (2 * capability p s) (g .row i)))
+        ≡ settle-at p s (g .row i)
+    agree = settle-cong (first-root p) (capability p s) (p .length) _ _ (λ j l. entry-word _ (g .row i) j l)
 
-      settles : settle-at p s (g .row i) ≡ some (word (p .length) (subword (p .length) (y ⊞ d) i))
-      settles =
-          settle-one (first-root p) (capability p s) (p .length) (g .row i) _ (ok .length .1)
-          (rw at-stage at (x-settled .explained))
-          ∙ ap (λ b. some (word (p .length) (subword (p .length) (y ⊞ b) i))) (sym (a .block))
+    settles : settle-at p s (g .row i) ≡ some (word (p .length) (subword (p .length) (y ⊞ d) i))
+    settles =
+        settle-one (first-root p) (capability p s) (p .length) (g .row i) _ (ok .length .1)
+        (rw at-stage at (x-settled .explained))
+        ∙ ap (λ b. some (word (p .length) (subword (p .length) (y ⊞ b) i))) (sym (a .block))
+
+    pub accepted-pattern : (s ≤ x .last) × (settle-at p s (entry (joined (x .rounds i)))
+        ≡ some (word (p .length) (subword (p .length) (y ⊞ d) i)))
+    accepted-pattern = (
+      omega (arith, at-stage, last-is, x-settled .passed),
+      ap (λ r. settle-at p s (entry r)) rounds-are ∙ agree ∙ settles,
+    )
+
+    pub accepted-rounds : length (joined (x .rounds i)) ≡ 2 * capability p s
+    accepted-rounds = ap length rounds-are ∙ length-word _ _
+
+    pub accepted-explains : Explains (first-root p) (capability p s) (p .length) (entry (joined (x .rounds i)))
+        (subword (p .length) (y ⊞ d) i)
+    accepted-explains =
+        explains-cong (first-root p) (capability p s) (p .length) _ _ _ (λ q l. entry-word (p .length) _ q l)
+        (settle-some (first-root p) (capability p s) (p .length) _ _ (accepted-pattern .1) .1)
 
 -- ---- all settled
 

@@ -1,7 +1,8 @@
 // Standard input, piece by piece. What is missing at its end is read as 0.
 ghost use Prim.Native.Nat.{_≤_, _<_};
 ghost use mathlib.Core.Path.{_≡_};
-ghost use lib.ListN.{length};
+ghost use Rattle.field.specs.Field.{of};
+ghost use Rattle.series.specs.Shift.{cut};
 ghost use Rattle.series.specs.Array.{bytes as Bytes};
 ghost use Rattle.polynomial.specs.Polynomial.{row as Row};
 ghost use Rattle.io.specs.Counts.{Counts};
@@ -36,15 +37,24 @@ pub fn bytes(n: usize) -> [u8; 65536]
     space
 }
 
-// A row of the syndromes, then zeros.
-pub fn row(syndromes: &[u8]) -> [Gf; SYNDROMES]
-    requires { ⌜ length (now syndromes) ≤ 48 ⌝ }
-    ensures { λ r. ⌜ Row r ≡ Bytes (now (syndromes .entry)) ⌝ }
+// Byte i of a word, and 0 past its end.
+fn at(word: &[u8], i: usize) -> u8
+    ensures { λ r. ⌜ of r ≡ Bytes (now (word .entry)) i ⌝ }
+{
+    if i < word.len() {
+        return word[i];
+    }
+    0
+}
+
+// A row of the first 48 bytes of a word, then zeros.
+pub fn row(word: &[u8]) -> [Gf; SYNDROMES]
+    ensures { λ r. ⌜ Row r ≡ cut 48 (Bytes (now (word .entry))) ⌝ }
 {
     let mut s = [Gf::ZERO; SYNDROMES];
     let mut i: usize = 0;
-    while i < syndromes.len() {
-        s[i] = Gf(syndromes[i]);
+    while i < SYNDROMES {
+        s[i] = Gf(at(word, i));
         i = i + 1;
     }
     s

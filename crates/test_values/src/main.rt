@@ -21,23 +21,48 @@ use test_support::output;
 use test_support::print;
 use test_support::state;
 
-// Both values at each position, from a state after k iterations over the syndromes.
-fn values(line: &mut [u8], first: u8, s: Solver, k: u8, row: [Gf; SYNDROMES], positions: &[u8]) -> usize {
-    let mut at = state::name(line, 0, s.form);
+// How far a run goes, the syndromes that are known then, and the number of iterations that is told.
+struct Run {
+    events: usize,
+    known: [Gf; SYNDROMES],
+    k: u8,
+}
+
+// Both values at one position, from a state.
+fn values(line: &mut [u8], at: usize, first: u8, s: Solver, run: Run, p: u8) -> usize {
+    let row = run.known;
+    let x = error_values::by_evaluator(first, s, run.k, row, p);
+    let y = error_values::by_auxiliary(first, s, run.k, row, p);
+    let mut end = put(line, at, b" |");
+    end = print::number(line, end, index(p));
+    end = print::number(line, end, index(x.0));
+    print::number(line, end, index(y.0))
+}
+
+// The values at each position, from the state after so many events of the run in one form.
+fn one(
+    line: &mut [u8],
+    form: Form,
+    first: u8,
+    run: Run,
+    syndromes: &[u8],
+    lengths: &[u8],
+    positions: &[u8],
+)
+    requires { ⌜ length (now positions) ≤ 255 ⌝ }
+{
+    let end = solver::rounds::run(form, syndromes, lengths, run.events);
+    let s = end.solver;
+    let mut at = state::name(line, 0, form);
     at = print::number(line, at, index(first));
-    at = print::number(line, at, index(k));
+    at = print::number(line, at, index(run.k));
     let mut i: usize = 0;
     while i < positions.len() {
-        let p = positions[i];
-        let x = error_values::by_evaluator(first, s, k, row, p);
-        let y = error_values::by_auxiliary(first, s, k, row, p);
-        at = put(line, at, b" |");
-        at = print::number(line, at, index(p));
-        at = print::number(line, at, index(x.0));
-        at = print::number(line, at, index(y.0));
+        at = values(line, at, first, s, run, positions[i]);
         i = i + 1;
     }
-    put(line, at, b"\n")
+    at = put(line, at, b"\n");
+    output::write(line, at);
 }
 
 // The next case, in each form.
@@ -53,16 +78,41 @@ fn case() {
     let a = input::bytes(rounds);
     let b = input::bytes(total);
     let c = input::bytes(count);
-    let row = input::row(&b[..known]);
-    let p = solver::rounds::run(Form::Plain, &b[..total], &a[..rounds], events);
-    let n = values(&mut line, first, p.solver, k, row, &c[..count]);
-    output::write(&line, n);
-    let l = solver::rounds::run(Form::Lookahead, &b[..total], &a[..rounds], events);
-    let n = values(&mut line, first, l.solver, k, row, &c[..count]);
-    output::write(&line, n);
-    let s = solver::rounds::run(Form::Scaled, &b[..total], &a[..rounds], events);
-    let n = values(&mut line, first, s.solver, k, row, &c[..count]);
-    output::write(&line, n);
+    let run = Run {
+        events: events,
+        known: input::row(&b[..known]),
+        k: k,
+    };
+    let lengths = &a[..rounds];
+    let syndromes = &b[..total];
+    let positions = &c[..count];
+    one(
+        &mut line,
+        Form::Plain,
+        first,
+        run,
+        syndromes,
+        lengths,
+        positions,
+    );
+    one(
+        &mut line,
+        Form::Lookahead,
+        first,
+        run,
+        syndromes,
+        lengths,
+        positions,
+    );
+    one(
+        &mut line,
+        Form::Scaled,
+        first,
+        run,
+        syndromes,
+        lengths,
+        positions,
+    );
 }
 
 fn main() {

@@ -12,35 +12,50 @@
 -- (written-one). Data in a codeword that is changed within the condition of FORMAT 6.11 and read are the same, byte for
 -- byte, whatever the profile is that a reader accepts (round-trip), so those that `encode` writes (trip). Two readings
 -- of the same bytes end alike (both).
-use Prim.Native.Nat.{ℕ, zero, suc, _<_}
+use Prim.Native.Nat.{ℕ, zero, suc, _+_, _*_, _<_}
 use mathlib.Core.Path.{_≡_, refl, sym, ap, _∙_, subst}
+use mathlib.Core.Logic.{_≢_}
 use mathlib.Core.List.{List, [], _∷_, map}
 use native.Mathlib.Omega.{arith}
 use lib.ListN.{length, getD, length-map}
-use Rattle.field.specs.Field.{F, of, byte, byte-lt}
+use Rattle.field.specs.Field.{F, _⊕_, ⊕-equal, of, byte, byte-lt, val}
+use Rattle.series.specs.Series.{Series, _⊞_, ⊞-at}
+use Rattle.series.specs.Shift.{cut, cut-unique}
+use Rattle.series.specs.Word.{entry, entry-past}
 use Rattle.series.specs.Array.{bytes, bytes-entry, bytes-word, word-bytes}
 use Rattle.profile.specs.declared.Profile.{Profile}
 use Rattle.profile.specs.declared.Parsed.{Parsed}
 use Rattle.profile.specs.declared.Parsed.the-variants.{Accepted, Refused}
 use Rattle.profile.specs.declared.Answer.the-variants as answer
-use Rattle.profile.specs.declared.questions.Caller.the-variants.{Encoder}
-use Rattle.profile.specs.Definition.{answer-of, block-size, data-size}
+use Rattle.profile.specs.declared.questions.Caller.the-variants.{Encoder, Card}
+use Rattle.profile.specs.Definition.{capability, first-root, answer-of, block-size, data-size}
 use Rattle.profile.specs.Questions.{profile-of, writing}
 use Rattle.profile.specs.QuestionsLaws.{admitted-profile}
-use Rattle.profile.specs.Valid.{Valid, Rising, admitted-valid, writing-passed, writing-rising}
-use Rattle.code.specs.Definition.{Encodes}
+use Rattle.profile.specs.Valid.{Valid, Rising, admitted-valid, capability-most, writing-passed, writing-rising}
+use Rattle.key_equation.specs.Run.{joined}
+use Rattle.key_equation.specs.Ends.{finish}
+use Rattle.code.specs.Word.{syndrome}
+use Rattle.code.specs.Definition.{syndrome-of, subword, Encodes}
 use Rattle.code.specs.Encoding.{encoding-some}
 use Rattle.block.specs.Gather.{data-written}
 use Rattle.solver.specs.declared.Form.{Form}
+use Rattle.solver.specs.Solver.{form-of, state-of, Is}
+use Rattle.error_values.specs.Definition.{evaluator-value, auxiliary-value}
+use Rattle.error_values.specs.Theorems.{end-gives}
+use Rattle.error_values.specs.Theorems.{Gives as ErrorValue}
+use Rattle.stages.specs.declared.report.Verdict.the-variants.{Corrected}
+use Rattle.stages.specs.declared.report.Line.{Line}
+use Rattle.stages.specs.Report.{Has}
 use Rattle.staged_decoding.specs.Restorable.{Restorable}
 use Rattle.staged_decoding.specs.Restoring.{restoring-bytes}
 use Rattle.encoder.specs.Definition.{found, written}
 use Rattle.encoder.specs.Laws.{written-is}
 use Rattle.decoder.specs.declared.prepared.Reading.{Reading}
 use Rattle.decoder.specs.Definition.{reading, extraction, answer-to, data-in, report-of, Gives}
-use Rattle.decoder.specs.Theorems.{extraction-is, Alike, alike}
+use Rattle.decoder.specs.Theorems.{extraction-is, read-solved, Alike, alike}
 use Rattle.theorems.specs.declared.Trip.{Trip as Answers}
 use Rattle.theorems.specs.declared.Pair.{Pair}
+use Rattle.theorems.specs.declared.Values.{Values}
 
 abbrev pub Bytes : List ℕ → Type 0
 Bytes l = (i : ℕ) → getD l i 0 < 256
@@ -130,3 +145,56 @@ pub both : (f g : Form) (b y o q e k : List ℕ) (a c : Reading) → q ≡ o
     → Alike f g (report-of (reading b y (length o))) e k a c
 both f g b y o q e k a c same x z =
     alike f g _ o e k a c x (subst (λ (o : List ℕ). Gives g (reading b y (length o)) o k c) same z)
+
+-- ---- values of errors
+
+-- S_0 to S_(k − 1) of what subword i was changed by
+abbrev pub changes-of : Profile → ℕ → (y e : List ℕ) → ℕ → Series
+changes-of p k y e i = cut k (syndrome-of p (subword (p .length) (bytes y ⊞ bytes e) i))
+
+abbrev pub SumOf : (f : Form) (b y e : List ℕ) (i first k : ℕ) (S : Series) (q : ℕ) → Values → Type 0
+SumOf f b y e i first k S q t = t .read .answer ≡ answer.Accepted → (p : Profile) → profile-of b ≡ Accepted p
+    → (l : Line) → Has (t .read .report .lines) i l → (c s : ℕ) → l .verdict ≡ Corrected c s
+    → first ≡ first-root p → k ≡ 2 * capability p s → S ≡ changes-of p k y e i
+    → q < p .length → subword (p .length) (bytes y) i q ≢ subword (p .length) (bytes e) i q
+    → let sum = subword (p .length) (bytes y) i q ⊕ subword (p .length) (bytes e) i q in
+    ErrorValue first k S q f (state-of f k (l .solver)) sum × (val (t .evaluator) ≡ sum) × (val (t .auxiliary) ≡ sum)
+
+-- from the promises of `decode`, `by_evaluator` and `by_auxiliary`; d is no line of the report
+pub sum-of : (f : Form) (b y o e : List ℕ) (i first k : ℕ) (S : Series) (q : ℕ) (t : Values) (d : Line)
+    → Gives f (reading b y (length o)) o e (t .read) → Bytes b
+    → ((r : ℕ) (f : Form) (m : form-of f .State) → Is f r (getD (t .read .report .lines) i d .solver) m
+    → val (t .evaluator) ≡ evaluator-value first k S q f m)
+    → ((r : ℕ) (f : Form) (m : form-of f .State) → Is f r (getD (t .read .report .lines) i d .solver) m
+    → val (t .auxiliary) ≡ auxiliary-value first k S q f m)
+    → SumOf f b y e i first k S q t
+unfolding subword
+sum-of f b y o e i first k S q t d g small evaluator auxiliary answered p profile l has c s corrected first-is k-is
+    S-is hq differ =
+    let x = read-solved f b y o e (t .read) g answered small p profile i c s l has corrected in
+    let n = p .length in
+    let changes = subword n (bytes y ⊞ bytes e) i in
+    let ok = admitted-valid Card b 0 0 0 p profile (omega (arith, small 2)) in
+    let sum = bytes y (i * n + q) ⊕ bytes e (i * n + q) in
+    let at : changes q ≡ sum = ⊞-at (bytes y) (bytes e) (i * n + q) in
+    let long : length (joined (x .rounds)) ≡ k = x .long ∙ sym k-is in
+    let rounds : entry (joined (x .rounds)) ≡ S =
+    sym (cut-unique k (syndrome-of p changes) (entry (joined (x .rounds)))
+    (λ j h. x .explains .syndromes j (omega arith))
+    (λ j h. entry-past (joined (x .rounds)) j (omega arith)))
+    ∙ sym S-is in
+    let ends = end-gives first n changes (ok .length .1) q hq (λ z. differ (⊕-equal _ _ (sym at ∙ z))) f (x .rounds)
+    (omega (arith, x .long, capability-most p ok s (x .low)))
+    (omega (arith, x .long, x .explains .within))
+    (λ j h. ap (λ r. syndrome r n changes j) first-is ∙ x .explains .syndromes j (omega (arith, x .long))) in
+    let state = finish (form-of f) (x .rounds) .state in
+    let gives : ErrorValue first k S q f state (changes q) =
+    subst (λ S. ErrorValue first k S q f state (changes q)) rounds
+    (subst (λ k. ErrorValue first k (entry (joined (x .rounds))) q f state (changes q)) long ends) in
+    let standing : Is f k (l .solver) state = subst (λ r. Is f r (l .solver) state) long (x .ended .is) in
+    let mine : Is f k (getD (t .read .report .lines) i d .solver) state =
+    subst (λ (l : Line). Is f k (l .solver) state) (sym (has .1 d)) standing in (
+      subst (λ m. ErrorValue first k S q f m sum) (sym (standing .1)) (subst (ErrorValue first k S q f state) at gives),
+      evaluator k f _ mine ∙ gives .evaluator ∙ at,
+      auxiliary k f _ mine ∙ gives .auxiliary ∙ at,
+    )

@@ -1,9 +1,13 @@
 // What calls of the codec come to together. Each function here makes the calls that a headline is about, and its
 // promise is the headline; no program needs them. specs/Theorems.antt states the same without calls.
+ghost use Prim.Native.Nat.{_<_};
 ghost use mathlib.Core.Path.{_≡_};
 ghost use lib.ListN.{length};
-ghost use Rattle.theorems.specs.Theorems.{Trip as RoundTrip, Both as EndAlike};
+ghost use Rattle.polynomial.specs.Polynomial.{row};
+ghost use Rattle.theorems.specs.Theorems.{Trip as RoundTrip, Both as EndAlike, SumOf};
 use decoder::prepared::Reading;
+use field::Gf;
+use polynomial::SYNDROMES;
 use profile::Answer;
 use solver::Form;
 
@@ -17,6 +21,13 @@ pub struct Trip {
 pub struct Pair {
     pub one: Reading,
     pub other: Reading,
+}
+
+// A reading, and the value of an error in two ways.
+pub struct Values {
+    pub read: Reading,
+    pub evaluator: Gf,
+    pub auxiliary: Gf,
 }
 
 // Writes data, and reads the data of a block that was received: if it is the written one but for changes within the
@@ -56,4 +67,34 @@ pub fn both(
     let a = decoder::decode(profile, input, out, f);
     let c = decoder::decode(profile, input, second, g);
     Pair { one: a, other: c }
+}
+
+// Reads a block, and takes the value of the error at position q of subword i in both ways, from the state that the
+// report holds: where the subword was corrected, and the received and the corrected symbol differ, both are their sum.
+// `first` says the first root, k how many syndromes the subword was settled by, and `syndromes` are these.
+pub fn error_values(
+    profile: &[u8],
+    input: &[u8],
+    out: &mut [u8],
+    form: Form,
+    i: usize,
+    first: u8,
+    k: u8,
+    syndromes: [Gf; SYNDROMES],
+    q: u8,
+) -> Values
+    requires { ⌜ i < 8 ⌝ }
+    ensures { λ t. ⌜ SumOf form (now (profile .entry)) (now (input .entry)) (now (out .exit)) i
+        first k (row syndromes) q t ⌝ }
+{
+    let r = decoder::decode(profile, input, out, form);
+    let report = r.report;
+    let lines = report.lines;
+    let line = lines[i];
+    let s = line.solver;
+    Values {
+        read: r,
+        evaluator: error_values::by_evaluator(first, s, k, syndromes, q),
+        auxiliary: error_values::by_auxiliary(first, s, k, syndromes, q),
+    }
 }

@@ -42,7 +42,8 @@ returns-3 c r =
     let at-one = c .before in
     let at-coefficient = at-one .before in
     let at-told = at-coefficient .before in
-    let given = at-told .before .before .before .before .before in
+    let at-form = at-told .before .before .before in
+    let given = at-form .before .before in
     for-form _ _ r (at-told .enum-told3 .given .1)
     (c .product .ensures
     ∙ ap (λ (x : F). val (given .args .s .scaled .gamma) ⊙ x) (at-one .one-if-zero .ensures ∙ ap or-one (at-coefficient .coefficient .ensures)))

@@ -1,27 +1,26 @@
--- Entry i gets syndrome i; past the syndromes there is none.
+-- Entry i gets byte i.
 use Prim.Native.Nat.{_-_, _≤_}
-use mathlib.Core.Path.{_≡_, sym, _∙_}
+use mathlib.Core.Path.{_≡_, ap, _∙_}
 use native.Mathlib.Omega.{arith}
-use lib.ListN.{length}
-use Rattle.field.specs.Field.{of, of-zero, val-of}
-use Rattle.series.specs.Degree.{below-weaken, below-cut-eq}
-use Rattle.series.specs.Array.{bytes, read-at, below-read, Filled, filled-none, filled-more}
+use Rattle.field.specs.Field.{val-of}
+use Rattle.series.specs.Shift.{cut}
+use Rattle.series.specs.Array.{bytes, Filled, filled-none, filled-more}
 use Rattle.polynomial.specs.Polynomial.{row-values}
 use borrow.Author.Needs.{needs}
 use Rattle.test_support.proofs.input.row.Statement.{statement}
 use Rattle.test_support.proofs.input.row.Tie as tie
 
 abbrev Inv-loop : tie.InvT-loop
-Inv-loop syndromes s₀ i₀ s i = Filled 48 i (bytes syndromes) s × (i ≤ length syndromes)
+Inv-loop word s₀ i₀ s i = Filled 48 i (bytes word) s × (i ≤ 48)
 
 abbrev μ-loop : tie.MeasureT-loop
-μ-loop syndromes s₀ i₀ s i = length syndromes - i
+μ-loop word s₀ i₀ s i = 48 - i
 
 loop-holds : tie.Need-loop-holds Inv-loop μ-loop
 loop-holds c = (filled-none 48 _, omega arith)
 
-shared-slice-read-t8 : tie.Need-shared-slice-read-t8 Inv-loop μ-loop
-shared-slice-read-t8 c = search needs
+at-requires : tie.Need-at-requires Inv-loop μ-loop
+at-requires c κs = search needs
 
 array-set-from-s : tie.Need-array-set-from-s Inv-loop μ-loop
 array-set-from-s c = search needs
@@ -34,14 +33,15 @@ loop-less c = search needs
 
 loop-again : tie.Need-loop-again Inv-loop μ-loop
 loop-again c =
-    let pass = c .before .before in
-    (filled-more _ (pass .loop .inv .0) (omega arith) (val-of _ ∙ sym (read-at _ _ _ _)), omega arith)
+    let now = c .before .before .loop in
+    (filled-more _ (now .inv .0) (omega arith) (val-of _ ∙ c .at .ensures), omega arith)
 
 returns : tie.Need-returns Inv-loop μ-loop
 returns c =
-    let filled = c .before .loop .inv .0 in
-    row-values _ (filled .long) ∙ filled .is
-    ∙ below-cut-eq _ _ (below-weaken _ _ _ (below-read of 0 of-zero _) (c .loop-test .left))
+    let end = c .before .loop in
+    let word = c .before .before .before .args .word .now in
+    let all : end .i ≡ 48 = omega (arith, c .loop-test .left, end .inv .1) in
+    row-values _ (end .inv .0 .long) ∙ end .inv .0 .is ∙ ap (λ k. cut k (bytes word)) all
 
 pub row-spec : {M : Type 1} → statement M
 row-spec =
@@ -50,7 +50,7 @@ row-spec =
     Inv-loop
     μ-loop
     loop-holds
-    shared-slice-read-t8
+    at-requires
     array-set-from-s
     add-i
     loop-less
