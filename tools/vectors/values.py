@@ -76,8 +76,8 @@ def of_patterns(rng):
 
 
 def inside_rounds(rng):
-    """Fewer changes than the syndromes tell: the state inside the round gives them too, in the scaled form with a factor
-    that is not 1."""
+    """Fewer changes than the syndromes tell: the state inside the round gives them too, in the scaled form with a
+    factor that is not 1."""
     for _ in range(60):
         e, f = rng.randint(1, 10), rng.choice([0, 1, 2, 254, rng.randint(0, 254)])
         count = rng.randint(2 * e + 1, 47)

@@ -28,9 +28,9 @@ use lib.Count.{ones}
 use lib.ListN.{length, getD}
 use Rattle.field.specs.Field.{F, _⊕_, byte, _≟_}
 use Rattle.series.specs.Series.{Series, _⊞_, ⊞-at}
-use Rattle.series.specs.Shift.{cut, cut-low}
+use Rattle.series.specs.Shift.{cut, cut-low, cut-unique}
 use Rattle.series.specs.Array.{bytes, bytes-word, word-bytes}
-use Rattle.series.specs.Word.{entry, word, word-cut}
+use Rattle.series.specs.Word.{entry, word, weight, entry-past, word-cut}
 use Rattle.key_equation.specs.Run.{joined}
 use Rattle.profile.specs.declared.Profile.{Profile}
 use Rattle.profile.specs.declared.Refusal.the-variants.{Unsettled}
@@ -43,9 +43,8 @@ use Rattle.profile.specs.Questions.{profile-of, reading-of}
 use Rattle.profile.specs.QuestionsLaws.{admitted-profile}
 use Rattle.profile.specs.Valid.{Valid, admitted-valid, reading-admitted, extracting-admitted}
 use Rattle.series.specs.Decide.{holds}
-use Rattle.code.specs.Definition.{subword, Codeword}
+use Rattle.code.specs.Definition.{syndrome-of, subword, Codeword}
 use Rattle.code.specs.Block.{Agree, agree-block, codeword-cong}
-use Rattle.settling.specs.Definition.{Explains}
 use Rattle.settling.specs.Settle.{explains-cong}
 use Rattle.solver.specs.declared.Form.{Form}
 use Rattle.solver.specs.declared.Solver.{Solver}
@@ -212,15 +211,19 @@ read-reports f b y o e a g answered =
 
 -- ---- corrected subwords
 
+-- what is received and what is written, added: subword i
+abbrev pub changes : Profile → (y e : List ℕ) → ℕ → Series
+changes p y e = subword (p .length) (bytes y ⊞ bytes e)
+
 -- what the report of a reading holds for a subword i that was corrected at stage s: a solver that stands at the end of
--- rounds, 2 t_s syndromes in all, which are explained by what was received and what was written, y and e, added
+-- rounds, 2 t_s syndromes in all, which are those of the changes, at most t_s, y being received and e written
 pub record Solved (f : Form) (p : Profile) (y e : List ℕ) (i s : ℕ) (solver : Solver) : Type 0 where
   pub rounds : List (List F)
   pub low : s ≤ p .nested
   pub long : length (joined rounds) ≡ 2 * capability p s
   pub ended : Ended f rounds solver
-  pub explains : Explains (first-root p) (capability p s) (p .length) (entry (joined rounds))
-      (subword (p .length) (bytes y ⊞ bytes e) i)
+  pub syndromes : entry (joined rounds) ≡ cut (2 * capability p s) (syndrome-of p (changes p y e i))
+  pub within : weight (p .length) (changes p y e i) ≤ capability p s
 
 pub read-solved : (f : Form) (b y o e : List ℕ) (a : Reading) → Gives f (reading b y (length o)) o e a
     → a .answer ≡ answer.Accepted → ((i : ℕ) → getD b i 0 < 256)
@@ -257,25 +260,29 @@ read-solved f b y o e a g answered small p profile i c s l has corrected = go (d
 
     -- the block that went out has the same subwords
     agree : i < p .subwords → (q : ℕ) → q < p .length
-        → subword (p .length) (bytes y ⊞ x .block) i q ≡ subword (p .length) (bytes y ⊞ bytes e) i q
+        → subword (p .length) (bytes y ⊞ x .block) i q ≡ changes p y e i q
     agree h q l =
         ⊞-at (bytes y) (x .block) (i * p .length + q) ∙ ap (λ t. bytes y (i * p .length + q) ⊕ t)
         (cut-agrees p (x .block) i (omega arith) h q l ∙ ap (λ (s : Series). s (i * p .length + q)) (sym out))
         ∙ sym (⊞-at (bytes y) (bytes e) (i * p .length + q))
 
     go : Dec (i < p .subwords) → Solved f p y e i s (l .solver)
-    go (yes h) = record {
-      rounds = x .report .rounds i;
-      low = omega (
-        arith,
-        accepted-pattern p (bytes y) (x .block) (x .report) decoded ok i c s h verdict .0,
-        accepted-last p (bytes y) (x .block) (x .report) decoded,
-      );
-      long = accepted-rounds p (bytes y) (x .block) (x .report) decoded ok i c s h verdict;
-      ended = tells .solvers i l has;
-      explains = explains-cong (first-root p) (capability p s) (p .length) _ _ _ (agree h)
-          (accepted-explains p (bytes y) (x .block) (x .report) decoded ok i c s h verdict);
-    }
+    go (yes h) =
+        let long = accepted-rounds p (bytes y) (x .block) (x .report) decoded ok i c s h verdict in
+        let explains = explains-cong (first-root p) (capability p s) (p .length) _ _ _ (agree h)
+        (accepted-explains p (bytes y) (x .block) (x .report) decoded ok i c s h verdict) in
+        record {
+          rounds = x .report .rounds i;
+          low = omega (
+            arith,
+            accepted-pattern p (bytes y) (x .block) (x .report) decoded ok i c s h verdict .0,
+            accepted-last p (bytes y) (x .block) (x .report) decoded,
+          );
+          long = long;
+          ended = tells .solvers i l has;
+          syndromes = sym (cut-unique _ _ _ (explains .syndromes) (λ j k. entry-past _ j (omega (arith, long))));
+          within = explains .within;
+        }
     go (no h) =
         let past = accepted-line-past p (bytes y) (x .block) (x .report) decoded i (omega arith) in
         let e : staged.clean ≡ staged.corrected c s = sym (ap (λ (l : staged.Line). l .verdict) past) ∙ verdict in

@@ -1,4 +1,4 @@
--- A polynomial f times S, its powers below k, at w = 1/x. With S divided by 1 + xz that is one coefficient of a product.
+-- A polynomial f times S, its powers below k, at w = 1/x: one coefficient of a product, with S divided by 1 + xz.
 --
 --   quotient x S   S·x/(1 + xz)
 --

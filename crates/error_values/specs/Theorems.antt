@@ -5,7 +5,7 @@
 --
 -- Proved, for a pattern that has the syndromes iterated over and at most half as many changes as they are: at each of
 -- its changed positions both ways give its change, at every point of every run of at most 48 syndromes, in each form
--- (run-gives), so at the end of a list of rounds (end-gives).
+-- (run-gives), so with a solver that is kept to the end of a list of rounds, as those of a report are (ended-gives).
 use Prim.Native.Nat.{ℕ, _*_, _≤_, _<_}
 use mathlib.Core.Path.{_≡_, sym, ap, ap₂, _∙_, subst}
 use mathlib.Core.Logic.{_≢_}
@@ -27,7 +27,9 @@ use Rattle.settling.specs.ErrorValue as ErrorValue
 use Rattle.settling.specs.ErrorValue.{values}
 use Rattle.solver.specs.declared.Form.{Form}
 use Rattle.solver.specs.declared.Form.the-variants.{Plain, Lookahead, Scaled}
-use Rattle.solver.specs.Solver.{form-of, Λ-in}
+use Rattle.solver.specs.declared.Solver.{Solver}
+use Rattle.solver.specs.Solver.{form-of, state-of, Λ-in}
+use Rattle.solver.specs.ContinuationDefinition.{Ended}
 use Rattle.error_values.specs.Definition.{B-in, factor-in, most}
 
 abbrev pub Gives : (first k : ℕ) → Series → (p : ℕ) (f : Form) → form-of f .State → F → Type 0
@@ -84,7 +86,7 @@ module _ (first n : ℕ) (e : Series) (hn : n ≤ 255) (p : ℕ) (hp : p < n) (c
           at-most (in-form f)
 
   -- all syndromes of the rounds
-  pub end-gives : 2 * weight n e ≤ length (joined rounds)
+  end-gives : 2 * weight n e ≤ length (joined rounds)
       → ((j : ℕ) → j < length (joined rounds) → syndrome first n e j ≡ entry (joined rounds) j)
       → Gives first (length (joined rounds)) (entry (joined rounds)) p f (finish (form-of f) rounds .state) (e p)
   unfolding so-far
@@ -94,3 +96,16 @@ module _ (first n : ℕ) (e : Series) (hn : n ≤ 255) (p : ℕ) (hp : p < n) (c
       let long : iterations rounds k ≡ length (joined rounds) = end-iterations rounds k (omega arith) in
       let state = ap (λ (q : At (form-of f)). q .state) (run-end (form-of f) rounds) in
       rw (known, long, state) at (run-gives k (omega arith) (λ j l. agrees j (omega arith) ∙ ap (λ s. s j) (sym known)))
+
+  -- a solver that is kept from round to round stands there: k syndromes, which are S
+  pub ended-gives : (k : ℕ) (S : Series) (s : Solver) → Ended f rounds s → length (joined rounds) ≡ k
+      → entry (joined rounds) ≡ S → 2 * weight n e ≤ k → ((j : ℕ) → j < k → syndrome first n e j ≡ S j)
+      → Gives first k S p f (state-of f k s) (e p)
+  ended-gives k S s ended long known few agrees =
+      subst (λ (k : ℕ). Gives first k S p f (state-of f k s) (e p)) long
+      (subst (λ (S : Series). Gives first r S p f (state-of f r s) (e p)) known
+      (subst (λ (m : form-of f .State). Gives first r (entry (joined rounds)) p f m (e p)) (sym (ended .is .1))
+      (end-gives (omega (arith, long)) (λ j l. agrees j (omega (arith, long)) ∙ ap (λ S. S j) (sym known)))))
+    where
+      r : ℕ
+      r = length (joined rounds)

@@ -7,7 +7,10 @@ mod omega;
 ghost use Prim.Native.Nat.{ℕ, _≤_, min};
 ghost use mathlib.Core.Path.{_≡_};
 ghost use Rattle.field.specs.Field.{_⊙_, pow, val};
+ghost use Rattle.series.specs.Shift.{cut};
+ghost use Rattle.series.specs.Array.{bytes};
 ghost use Rattle.polynomial.specs.Polynomial.{poly, row};
+ghost use Rattle.kernel.specs.ProductRow.{products};
 ghost use Rattle.settling.specs.Locator.{W};
 ghost use Rattle.settling.specs.Twist.{inverse-multiplier};
 ghost use Rattle.settling.specs.ErrorValue.{odd-at, divisor};
@@ -43,12 +46,19 @@ fn inverse_power(p: u8, k: usize) -> Gf
     Exponent(e * k).power()
 }
 
+// The row of products by the inverse location of position p.
+fn inverse_row(p: u8) -> [u8; 256]
+    ensures { λ r. ⌜ bytes r ≡ cut 256 (products (W p)) ⌝ }
+{
+    kernel::product_row(inverse_power(p, 1))
+}
+
 // The value y that was found with the first root α, for the first root α^first: times the location of position p to the
 // power 1 - first.
 fn untwisted(first: u8, p: u8, y: Gf) -> Gf
     ensures { λ r. ⌜ val r ≡ inverse-multiplier first p ⊙ val y ⌝ }
 {
-    let e = 256 - first as usize;
+    let e = settle::untwist::less(first);
     product(Exponent(p as usize * e).power(), y)
 }
 
@@ -90,33 +100,30 @@ fn factor(s: Solver, k: usize, syndromes: [Gf; SYNDROMES]) -> Gf
 fn odd_value(locator: [Gf; COEFFICIENTS], p: u8) -> Gf
     ensures { λ r. ⌜ val r ≡ odd-at 49 (poly locator) p ⌝ }
 {
-    let row = kernel::product_row(inverse_power(p, 1));
-    let odds = coefficients::odd(locator, COEFFICIENTS);
-    kernel::value(&row, &odds)
+    let row = inverse_row(p);
+    let part = coefficients::odd(locator, COEFFICIENTS);
+    kernel::value(&row, &part)
 }
 
 // B there, times the odd part of Λ: the divisor of the second way. One row of products serves both values.
 fn both_values(locator: [Gf; COEFFICIENTS], auxiliary: [Gf; COEFFICIENTS], p: u8) -> Gf
     ensures { λ r. ⌜ val r ≡ divisor 49 (poly locator) (poly auxiliary) p ⌝ }
 {
-    let row = kernel::product_row(inverse_power(p, 1));
+    let row = inverse_row(p);
     let odds = coefficients::odd(locator, COEFFICIENTS);
     let all = coefficients::all(auxiliary);
     product(kernel::value(&row, &all), kernel::value(&row, &odds))
 }
 
-// The value of the error at position p by the evaluator, from the state after k iterations over the syndromes, the first
-// root being α^first. Whatever the state is, the value is what the formula says, the inverse of zero being zero.
+// The value of the error at position p by the evaluator, from the state after k iterations over the syndromes; the
+// first root is α^first. Whatever the state is, the value is what the formula says, the inverse of zero being zero.
 pub fn by_evaluator(first: u8, s: Solver, k: u8, syndromes: [Gf; SYNDROMES], p: u8) -> Gf
     ensures { λ y. ⌜ ((r : ℕ) (f : Form) (m : form-of f .State) → Is f r s m
         → val y ≡ evaluator-value first k (row syndromes) p f m) ⌝ }
 {
     let locator = solver::continuation::locator(s);
-    let n = iterations(k);
-    let top = product(
-        inverse_power(p, 1),
-        crate::omega::value(locator, syndromes, n, p),
-    );
+    let omega = crate::omega::value(locator, syndromes, iterations(k), p);
+    let top = product(inverse_power(p, 1), omega);
     let bottom = odd_value(locator, p);
     untwisted(first, p, product(top, bottom.inverse()))
 }
@@ -130,7 +137,7 @@ pub fn by_auxiliary(first: u8, s: Solver, k: u8, syndromes: [Gf; SYNDROMES], p: 
     let b = auxiliary(s);
     let n = iterations(k);
     let g = product(factor(s, n, syndromes), locator[0]);
-    let top = product(g, inverse_power(p, n));
-    let bottom = both_values(locator, b, p);
-    untwisted(first, p, product(top, bottom.inverse()))
+    let dividend = product(g, inverse_power(p, n));
+    let divisor = both_values(locator, b, p);
+    untwisted(first, p, product(dividend, divisor.inverse()))
 }

@@ -1,5 +1,5 @@
-// The evaluator's value at an inverse location, with no evaluator made: w^k times one coefficient of a product is enough
-// (specs/OmegaValue.antt).
+// The evaluator's value at an inverse location w, with no evaluator made: w^k times one coefficient of a product is
+// enough (specs/OmegaValue.antt).
 ghost use Prim.Native.Nat.{_≤_};
 ghost use mathlib.Core.Path.{_≡_};
 ghost use Rattle.field.specs.Field.{val};

@@ -7,7 +7,8 @@
 --   wanted J known r   where a run in such a form is to be, J being the joined syndromes and `known` those so far
 --
 -- Proved: how many iterations a run has had (run-r); where every run is, as one equation (run-is); how far it has come
--- (iterations-le), and what its end is (end-iterations, end-entered).
+-- (iterations-le), and what its end is (end-iterations, end-entered); the syndromes so far are those of the joined
+-- rounds, as far as they are iterated over (so-far-agrees).
 use Prim.Native.Nat.{ℕ, zero, suc, _+_, _≤_, _<_}
 use mathlib.Core.Path.{_≡_, refl, sym, ap, _∙_}
 use mathlib.Core.Logic.{_≢_}
@@ -174,7 +175,8 @@ known-agrees (suc k) zero (round ∷ rest) known i h =
     ∙ ap (λ l. entry l i) (append-assoc known round (joined rest))
 known-agrees (suc k) (suc n) rounds known i h = known-agrees k n rounds known i (omega arith)
 
-pub so-far-agrees : (rounds : List (List F)) (k : ℕ) → Agree (iterations rounds k) (so-far rounds k) (entry (joined rounds))
+pub so-far-agrees : (rounds : List (List F)) (k : ℕ)
+    → Agree (iterations rounds k) (so-far rounds k) (entry (joined rounds))
 unfolding iterations so-far
 so-far-agrees rounds k i h = known-agrees k 0 rounds [] i (omega arith)
 

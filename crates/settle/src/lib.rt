@@ -5,7 +5,7 @@ mod candidate;
 mod check;
 mod numerator;
 mod positions;
-mod untwist;
+pub mod untwist;
 
 ghost use Prim.Native.Nat.{_*_, _≤_};
 ghost use mathlib.Core.Path.{_≡_};

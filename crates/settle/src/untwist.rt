@@ -11,7 +11,7 @@ use field::Gf;
 use profile::POSITIONS;
 
 // The number 1 - first modulo 255, which counts as an exponent, and is not negative.
-fn less(first: u8) -> usize
+pub fn less(first: u8) -> usize
     ensures { λ r. ⌜ r ≡ 256 - first ⌝ }
 {
     256 - first as usize

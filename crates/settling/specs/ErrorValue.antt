@@ -1,5 +1,5 @@
--- The value of an error from the polynomials that a solver has after r iterations, in two ways: FORMAT 8.19, where it is
--- the change at place p. The first root is α^f, w is W p, and c coefficients of each polynomial are read.
+-- The value of an error from the polynomials that a solver has after r iterations, in two ways: FORMAT 8.19, where it
+-- is the change at place p. The first root is α^f, w is W p, and c coefficients of each polynomial are read.
 --
 --   Ω-at r Λ S p          Ω(w): Ω is Λ·S, of which the powers below r are read
 --   odd-at c Λ p          Λ_odd(w): the divisor of the first way
@@ -10,9 +10,9 @@
 --
 -- Proved, whatever the polynomials are: where its divisor is zero, a way gives zero (by-evaluator-none,
 -- by-auxiliary-none). Where a pattern has the first r syndromes of S and at most r/2 changes, Λ and B are multiples of
--- the measure's after r iterations, and g is γ times the factor of B: both ways give its change at each changed position
--- (values). No case is made for swap and hold: at a root w of Λ the determinant of the iteration is w·B(w)·P(w), and it
--- is γ·Λ_0·w^r, of which no factor is zero.
+-- the measure's after r iterations, and g is γ times the factor of B: both ways give its change at each changed
+-- position (values). No case is made for swap and hold: at a root w of Λ the determinant of the iteration is
+-- w·B(w)·P(w), and it is γ·Λ_0·w^r, of which no factor is zero.
 use Prim.Native.Nat.{ℕ, suc, _+_, _*_, _≤_, _<_}
 use mathlib.Core.Path.{_≡_, sym, ap, ap₂, _∙_}
 use mathlib.Core.Logic.{_≢_}

@@ -6,8 +6,9 @@
 -- of these (accepted-changed, accepted-bits); a line has at most 2,040 bits, and the report 16,320 (accepted-few); the
 -- last stage is at most v (accepted-last). The rounds of a corrected subword, joined, are syndromes that are settled,
 -- at the stage of its line, by what the decoded subword differs by from the received one (accepted-pattern): as many as
--- that stage has (accepted-rounds), and explained by it (accepted-explains); a clean one has none (clean-rounds). Lines that are no subword's are clean (accepted-line-past). Where every subword is
--- settled no line has more than 8 × n bits (settled-bits).
+-- that stage has (accepted-rounds), and explained by it (accepted-explains); a clean one has none (clean-rounds). Lines
+-- that are no subword's are clean (accepted-line-past). Where every subword is settled no line has more than 8 × n bits
+-- (settled-bits).
 use Prim.Native.Nat.{ℕ, zero, suc, _*_, _≤_, _<_}
 use mathlib.Core.Path.{_≡_, refl, sym, ap, _∙_}
 use mathlib.Core.List.{[]}

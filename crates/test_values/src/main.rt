@@ -1,5 +1,5 @@
-// Prints the value of an error in two ways, by the evaluator and by the auxiliary polynomial, from the state of a solver
-// in each form, as the cases of standard input say, a line for each:
+// Prints the value of an error in two ways, by the evaluator and by the auxiliary polynomial, from the state of a
+// solver in each form, as the cases of standard input say, a line for each:
 //
 //     FORM f k | position, the two values | position, the two values ..
 //

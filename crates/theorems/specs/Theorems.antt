@@ -5,13 +5,17 @@
 --   Written p d c     the block c is a codeword of the profile p with the data d, and the only one
 --   Trip b d c y o e t   data d are written to c, and y is read to e, which has o bytes: t is what was answered, and if
 --                     y is c but for changes that can be restored, e is d
+--   SumOf f b y e i first k S q t   y is read to e in the form f, and the value of the error at position q of subword i
+--                     is taken in both ways: where the subword was corrected by the k syndromes S, and the received and
+--                     the corrected symbol differ, both are their sum, and neither divisor is zero
 --   Both f g b y o e k t   y is read to e in the form f and to k in the form g: t is what was handed back, and the two
 --                     are alike
 --
 -- Proved: what a writer accepts has rising capabilities, and what is written is the one codeword with the data
 -- (written-one). Data in a codeword that is changed within the condition of FORMAT 6.11 and read are the same, byte for
 -- byte, whatever the profile is that a reader accepts (round-trip), so those that `encode` writes (trip). Two readings
--- of the same bytes end alike (both).
+-- of the same bytes end alike (both). Both ways to the value of an error, from the state that a report holds, give what
+-- was changed (sum-of).
 use Prim.Native.Nat.{ℕ, zero, suc, _+_, _*_, _<_}
 use mathlib.Core.Path.{_≡_, refl, sym, ap, _∙_, subst}
 use mathlib.Core.Logic.{_≢_}
@@ -20,8 +24,7 @@ use native.Mathlib.Omega.{arith}
 use lib.ListN.{length, getD, length-map}
 use Rattle.field.specs.Field.{F, _⊕_, ⊕-equal, of, byte, byte-lt, val}
 use Rattle.series.specs.Series.{Series, _⊞_, ⊞-at}
-use Rattle.series.specs.Shift.{cut, cut-unique}
-use Rattle.series.specs.Word.{entry, entry-past}
+use Rattle.series.specs.Shift.{cut, cut-low}
 use Rattle.series.specs.Array.{bytes, bytes-entry, bytes-word, word-bytes}
 use Rattle.profile.specs.declared.Profile.{Profile}
 use Rattle.profile.specs.declared.Parsed.{Parsed}
@@ -32,8 +35,6 @@ use Rattle.profile.specs.Definition.{capability, first-root, answer-of, block-s
 use Rattle.profile.specs.Questions.{profile-of, writing}
 use Rattle.profile.specs.QuestionsLaws.{admitted-profile}
 use Rattle.profile.specs.Valid.{Valid, Rising, admitted-valid, capability-most, writing-passed, writing-rising}
-use Rattle.key_equation.specs.Run.{joined}
-use Rattle.key_equation.specs.Ends.{finish}
 use Rattle.code.specs.Word.{syndrome}
 use Rattle.code.specs.Definition.{syndrome-of, subword, Encodes}
 use Rattle.code.specs.Encoding.{encoding-some}
@@ -41,8 +42,7 @@ use Rattle.block.specs.Gather.{data-written}
 use Rattle.solver.specs.declared.Form.{Form}
 use Rattle.solver.specs.Solver.{form-of, state-of, Is}
 use Rattle.error_values.specs.Definition.{evaluator-value, auxiliary-value}
-use Rattle.error_values.specs.Theorems.{end-gives}
-use Rattle.error_values.specs.Theorems.{Gives as ErrorValue}
+use Rattle.error_values.specs.Theorems.{ended-gives, Gives as ErrorValue}
 use Rattle.stages.specs.declared.report.Verdict.the-variants.{Corrected}
 use Rattle.stages.specs.declared.report.Line.{Line}
 use Rattle.stages.specs.Report.{Has}
@@ -52,7 +52,7 @@ use Rattle.encoder.specs.Definition.{found, written}
 use Rattle.encoder.specs.Laws.{written-is}
 use Rattle.decoder.specs.declared.prepared.Reading.{Reading}
 use Rattle.decoder.specs.Definition.{reading, extraction, answer-to, data-in, report-of, Gives}
-use Rattle.decoder.specs.Theorems.{extraction-is, read-solved, Alike, alike}
+use Rattle.decoder.specs.Theorems.{extraction-is, changes, read-solved, Alike, alike}
 use Rattle.theorems.specs.declared.Trip.{Trip as Answers}
 use Rattle.theorems.specs.declared.Pair.{Pair}
 use Rattle.theorems.specs.declared.Values.{Values}
@@ -148,14 +148,10 @@ both f g b y o q e k a c same x z =
 
 -- ---- values of errors
 
--- S_0 to S_(k − 1) of what subword i was changed by
-abbrev pub changes-of : Profile → ℕ → (y e : List ℕ) → ℕ → Series
-changes-of p k y e i = cut k (syndrome-of p (subword (p .length) (bytes y ⊞ bytes e) i))
-
 abbrev pub SumOf : (f : Form) (b y e : List ℕ) (i first k : ℕ) (S : Series) (q : ℕ) → Values → Type 0
 SumOf f b y e i first k S q t = t .read .answer ≡ answer.Accepted → (p : Profile) → profile-of b ≡ Accepted p
     → (l : Line) → Has (t .read .report .lines) i l → (c s : ℕ) → l .verdict ≡ Corrected c s
-    → first ≡ first-root p → k ≡ 2 * capability p s → S ≡ changes-of p k y e i
+    → first ≡ first-root p → k ≡ 2 * capability p s → S ≡ cut k (syndrome-of p (changes p y e i))
     → q < p .length → subword (p .length) (bytes y) i q ≢ subword (p .length) (bytes e) i q
     → let sum = subword (p .length) (bytes y) i q ⊕ subword (p .length) (bytes e) i q in
     ErrorValue first k S q f (state-of f k (l .solver)) sum × (val (t .evaluator) ≡ sum) × (val (t .auxiliary) ≡ sum)
@@ -173,28 +169,17 @@ sum-of f b y o e i first k S q t d g small evaluator auxiliary answered p profil
     S-is hq differ =
     let x = read-solved f b y o e (t .read) g answered small p profile i c s l has corrected in
     let n = p .length in
-    let changes = subword n (bytes y ⊞ bytes e) i in
     let ok = admitted-valid Card b 0 0 0 p profile (omega (arith, small 2)) in
     let sum = bytes y (i * n + q) ⊕ bytes e (i * n + q) in
-    let at : changes q ≡ sum = ⊞-at (bytes y) (bytes e) (i * n + q) in
-    let long : length (joined (x .rounds)) ≡ k = x .long ∙ sym k-is in
-    let rounds : entry (joined (x .rounds)) ≡ S =
-    sym (cut-unique k (syndrome-of p changes) (entry (joined (x .rounds)))
-    (λ j h. x .explains .syndromes j (omega arith))
-    (λ j h. entry-past (joined (x .rounds)) j (omega arith)))
-    ∙ sym S-is in
-    let ends = end-gives first n changes (ok .length .1) q hq (λ z. differ (⊕-equal _ _ (sym at ∙ z))) f (x .rounds)
-    (omega (arith, x .long, capability-most p ok s (x .low)))
-    (omega (arith, x .long, x .explains .within))
-    (λ j h. ap (λ r. syndrome r n changes j) first-is ∙ x .explains .syndromes j (omega (arith, x .long))) in
-    let state = finish (form-of f) (x .rounds) .state in
-    let gives : ErrorValue first k S q f state (changes q) =
-    subst (λ S. ErrorValue first k S q f state (changes q)) rounds
-    (subst (λ k. ErrorValue first k (entry (joined (x .rounds))) q f state (changes q)) long ends) in
-    let standing : Is f k (l .solver) state = subst (λ r. Is f r (l .solver) state) long (x .ended .is) in
-    let mine : Is f k (getD (t .read .report .lines) i d .solver) state =
-    subst (λ (l : Line). Is f k (l .solver) state) (sym (has .1 d)) standing in (
-      subst (λ m. ErrorValue first k S q f m sum) (sym (standing .1)) (subst (ErrorValue first k S q f state) at gives),
-      evaluator k f _ mine ∙ gives .evaluator ∙ at,
-      auxiliary k f _ mine ∙ gives .auxiliary ∙ at,
-    )
+    let at : changes p y e i q ≡ sum = ⊞-at (bytes y) (bytes e) (i * n + q) in
+    let known = x .syndromes ∙ ap (λ j. cut j (syndrome-of p (changes p y e i))) (sym k-is) ∙ sym S-is in
+    let gives : ErrorValue first k S q f (state-of f k (l .solver)) sum =
+    subst (ErrorValue first k S q f (state-of f k (l .solver))) at
+    (ended-gives first n (changes p y e i) (ok .length .1) q hq (λ z. differ (⊕-equal _ _ (sym at ∙ z))) f (x .rounds)
+    (omega (arith, x .long, capability-most p ok s (x .low))) k S (l .solver) (x .ended) (x .long ∙ sym k-is) known
+    (omega (arith, k-is, x .within))
+    (λ j h. ap (λ r. syndrome r n (changes p y e i) j) first-is ∙ sym (cut-low k _ j h)
+    ∙ ap (λ (S : Series). S j) (sym S-is))) in
+    let standing : Is f k (getD (t .read .report .lines) i d .solver) (state-of f k (l .solver)) =
+    subst (λ (m : Line). Is f k (m .solver) (state-of f k (l .solver))) (sym (has .1 d)) (x .ended .is .0, refl) in
+    (gives, evaluator k f _ standing ∙ gives .evaluator, auxiliary k f _ standing ∙ gives .auxiliary)

@@ -10,11 +10,8 @@ use borrow.Author.Needs.{needs}
 use Rattle.error_values.proofs.both_values.Statement.{statement}
 use Rattle.error_values.proofs.both_values.Tie as tie
 
-inverse-power-requires : tie.Need-inverse-power-requires
-inverse-power-requires c κs = search needs
-
-product-row-requires : tie.Need-product-row-requires
-product-row-requires c κs = search needs
+inverse-row-requires : tie.Need-inverse-row-requires
+inverse-row-requires c κs = search needs
 
 odd-requires : tie.Need-odd-requires
 odd-requires c κs = search needs
@@ -31,7 +28,7 @@ slice-aggregate-value-2 c = search needs
 value-requires : tie.Need-value-requires
 value-requires c κs =
     let at-all = c .before .before in
-    row-products _ _ (search needs) (at-all .before .before .product-row .ensures)
+    row-products _ _ (search needs) (at-all .before .before .inverse-row .ensures)
 
 slice-aggregate-value-3 : tie.Need-slice-aggregate-value-3
 slice-aggregate-value-3 c = search needs
@@ -43,7 +40,7 @@ value-requires-2 : tie.Need-value-requires-2
 value-requires-2 c κs =
     let at-value = c .before .before in
     let at-all = at-value .before .before .before in
-    row-products _ _ (search needs) (at-all .before .before .product-row .ensures)
+    row-products _ _ (search needs) (at-all .before .before .inverse-row .ensures)
 
 product-requires : tie.Need-product-requires
 product-requires c κs = search needs
@@ -54,22 +51,19 @@ returns c =
     let at-value = at-value2 .before .before .before in
     let at-all = at-value .before .before .before in
     let at-odd = at-all .before in
-    let made = at-odd .before in
-    let row = made .product-row .ensures in
-    let w = made .before .inverse-power .ensures in
+    let row = at-odd .before .inverse-row .ensures in
     c .product .ensures
     ∙ ap₂ _⊙_
-    (at-value .value .ensures ∙ row-value _ _ _ _ _ row w (search needs) (at-all .all .ensures))
+    (at-value .value .ensures ∙ row-value _ _ _ _ row (search needs) (at-all .all .ensures))
     (at-value2 .value2 .ensures
-    ∙ row-value _ _ _ _ _ row w (search needs)
+    ∙ row-value _ _ _ _ row (search needs)
     (at-odd .odd .ensures ∙ below-cut-eq 49 _ (below-odd 49 _ (below-poly _))))
 
 pub both-values-spec : {M : Type 1} → statement M
 both-values-spec =
     tie.close
     (tie.spec
-    inverse-power-requires
-    product-row-requires
+    inverse-row-requires
     odd-requires
     all-requires
     slice-aggregate-value

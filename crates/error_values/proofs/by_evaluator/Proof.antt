@@ -16,11 +16,11 @@ locator-requires c κs = search needs
 iterations-requires : tie.Need-iterations-requires
 iterations-requires c κs = search needs
 
-inverse-power-requires : tie.Need-inverse-power-requires
-inverse-power-requires c κs = search needs
-
 value-requires : tie.Need-value-requires
 value-requires c κs = search needs
+
+inverse-power-requires : tie.Need-inverse-power-requires
+inverse-power-requires c κs = search needs
 
 product-requires : tie.Need-product-requires
 product-requires c κs = search needs
@@ -42,11 +42,12 @@ unfolding by-evaluator
 returns c r f m h =
     let at-odd = c .before .before .before in
     let at-product = at-odd .before in
-    let at-value = at-product .before in
-    let at-power = at-value .before in
-    let at-iterations = at-power .before in
+    let at-power = at-product .before in
+    let at-value = at-power .before in
+    let at-iterations = at-value .before in
     let at-locator = at-iterations .before in
     let given = at-locator .before .args in
+    let n-is = at-iterations .iterations .ensures in
     let Λ-is = at-locator .locator .ensures r f m h in
     c .untwisted .ensures
     ∙ ap (λ (x : F). inverse-multiplier (given .first) (given .p) ⊙ x)
@@ -55,7 +56,7 @@ returns c r f m h =
     (at-product .product .ensures
     ∙ ap₂ _⊙_ (at-power .inverse-power .ensures ∙ pow-one _)
     (at-value .value .ensures
-    ∙ ap₂ (λ (n : ℕ) (Λ : Series). Ω-at n Λ (row (given .syndromes)) (given .p)) (at-iterations .iterations .ensures) Λ-is))
+    ∙ ap₂ (λ (n : ℕ) (Λ : Series). Ω-at n Λ (row (given .syndromes)) (given .p)) n-is Λ-is))
     (c .before .before .inverse .ensures
     ∙ ap inv (at-odd .odd-value .ensures ∙ ap (λ (Λ : Series). odd-at 49 Λ (given .p)) Λ-is)))
 
@@ -65,8 +66,8 @@ by-evaluator-spec =
     (tie.spec
     locator-requires
     iterations-requires
-    inverse-power-requires
     value-requires
+    inverse-power-requires
     product-requires
     odd-value-requires
     inverse-requires

@@ -46,7 +46,8 @@ returns-3 c r =
     let given = at-form .before .before in
     for-form _ _ r (at-told .enum-told3 .given .1)
     (c .product .ensures
-    ∙ ap (λ (x : F). val (given .args .s .scaled .gamma) ⊙ x) (at-one .one-if-zero .ensures ∙ ap or-one (at-coefficient .coefficient .ensures)))
+    ∙ ap (λ (x : F). val (given .args .s .scaled .gamma) ⊙ x)
+    (at-one .one-if-zero .ensures ∙ ap or-one (at-coefficient .coefficient .ensures)))
 
 pub factor-spec : {M : Type 1} → statement M
 factor-spec =

@@ -9,11 +9,8 @@ use borrow.Author.Needs.{needs}
 use Rattle.error_values.proofs.odd_value.Statement.{statement}
 use Rattle.error_values.proofs.odd_value.Tie as tie
 
-inverse-power-requires : tie.Need-inverse-power-requires
-inverse-power-requires c κs = search needs
-
-product-row-requires : tie.Need-product-row-requires
-product-row-requires c κs = search needs
+inverse-row-requires : tie.Need-inverse-row-requires
+inverse-row-requires c κs = search needs
 
 odd-requires : tie.Need-odd-requires
 odd-requires c κs = search needs
@@ -25,22 +22,20 @@ slice-aggregate-value-2 : tie.Need-slice-aggregate-value-2
 slice-aggregate-value-2 c = search needs
 
 value-requires : tie.Need-value-requires
-value-requires c κs = row-products _ _ (search needs) (c .before .before .before .product-row .ensures)
+value-requires c κs = row-products _ _ (search needs) (c .before .before .before .inverse-row .ensures)
 
 returns : tie.Need-returns
 returns c =
     let at-odd = c .before .before .before in
-    let made = at-odd .before in
     c .value .ensures
-    ∙ row-value _ _ _ _ _ (made .product-row .ensures) (made .before .inverse-power .ensures) (search needs)
+    ∙ row-value _ _ _ _ (at-odd .before .inverse-row .ensures) (search needs)
     (at-odd .odd .ensures ∙ below-cut-eq 49 _ (below-odd 49 _ (below-poly _)))
 
 pub odd-value-spec : {M : Type 1} → statement M
 odd-value-spec =
     tie.close
     (tie.spec
-    inverse-power-requires
-    product-row-requires
+    inverse-row-requires
     odd-requires
     slice-aggregate-value
     slice-aggregate-value-2

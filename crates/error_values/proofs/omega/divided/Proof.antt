@@ -66,7 +66,8 @@ returns c =
     let end = c .before .loop in
     let given = c .before .before .args in
     let all : end .j ≡ 48 = omega (arith, c .loop-test .left, end .inv .0) in
-    row-values _ (end .inv .1 .long) ∙ end .inv .1 .is ∙ ap (λ k. cut k (quotient (factor (given .row .now)) (Row (given .t2)))) all
+    row-values _ (end .inv .1 .long) ∙ end .inv .1 .is
+    ∙ ap (λ k. cut k (quotient (factor (given .row .now)) (Row (given .t2)))) all
 
 pub divided-spec : {M : Type 1} → statement M
 divided-spec =
