@@ -75,6 +75,11 @@ def of_patterns(rng):
                 yield Case(f, rounds, events_of(rounds), places, pattern=pattern)
 
 
+def of_format(rng):
+    """Strip 0 of FORMAT 10.5."""
+    yield Case(1, [[15, 113], [166, 80]], 6, [0, 3], pattern=[(0, 1), (3, 200)])
+
+
 def inside_rounds(rng):
     """Fewer changes than the syndromes tell: the state inside the round gives them too, in the scaled form with a
     factor that is not 1."""
@@ -99,6 +104,6 @@ def any_states(rng):
 
 def make():
     rng = random.Random(6)
-    every = [case for kind in (of_patterns, inside_rounds, any_states) for case in kind(rng)]
+    every = [case for kind in (of_format, of_patterns, inside_rounds, any_states) for case in kind(rng)]
     return {'stdin': number(len(every)) + b''.join(case.as_bytes() for case in every),
             'stdout': text(line for case in every for line in case.lines())}
