@@ -7,7 +7,7 @@
 use Prim.Native.Nat.{ℕ, zero, suc, _+_, _-_, _≤_, _<_}
 use mathlib.Core.Path.{_≡_, sym, ap, ap₂, _∙_}
 use native.Mathlib.Omega.{arith}
-use Rattle.field.specs.Field.{F, 𝟏, α, _⊕_, _⊙_, ⊙-assoc, ⊙-one, one-⊙, ⊙-ring, pow, pow-add, pow-suc, pow-⊙, one-pow}
+use Rattle.field.specs.Field.{F, 𝟏, α, _⊕_, _⊙_, ⊙-one, one-⊙, ⊙-ring, pow, pow-add, pow-suc, pow-⊙, one-pow}
 use Rattle.series.specs.Sum.{sum-cong, ⊙-sum}
 use Rattle.series.specs.Series.{Series, K, Z, _⊞_, _⊠_, ⊠-ring, ⊞-lc, ⊞-at, ⊠-at, K-⊠-at, ⊠-agree}
 use Rattle.series.specs.Shift.{cut, cut-low}

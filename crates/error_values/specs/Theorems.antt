@@ -7,7 +7,7 @@
 -- its changed positions both ways give its change, at every point of every run of at most 48 syndromes, in each form
 -- (run-gives), so with a solver that is kept to the end of a list of rounds, as those of a report are (ended-gives).
 use Prim.Native.Nat.{ℕ, _*_, _≤_, _<_}
-use mathlib.Core.Path.{_≡_, sym, ap, ap₂, _∙_, subst}
+use mathlib.Core.Path.{_≡_, sym, ap, _∙_, subst}
 use mathlib.Core.Logic.{_≢_}
 use mathlib.Core.List.{List}
 use native.Mathlib.Omega.{arith}
@@ -18,7 +18,7 @@ use Rattle.series.specs.Word.{entry, weight}
 use Rattle.code.specs.Word.{syndrome}
 use Rattle.key_equation.specs.Shared.{or-one}
 use Rattle.key_equation.specs.Plain as Plain
-use Rattle.key_equation.specs.Run.{At, joined, events, run, iterations, so-far, measure, factors}
+use Rattle.key_equation.specs.Run.{At, joined, events, run, iterations, so-far, measure}
 use Rattle.key_equation.specs.Measure.{measure-agree}
 use Rattle.key_equation.specs.Walk.{iterations-le, end-iterations, end-entered, so-far-agrees}
 use Rattle.key_equation.specs.Agreement.{agreement}
@@ -51,21 +51,25 @@ module _ (first n : ℕ) (e : Series) (hn : n ≤ 255) (p : ℕ) (hp : p < n) (c
     m-is : m ≡ measure S r
     m-is = sym (measure-agree r S (entry (joined rounds)) (so-far-agrees rounds k))
 
+    abbrev state-in : (f : Form) → form-of f .State
+    state-in f = run (form-of f) rounds k .state
+
+    -- after q iterations
+    abbrev Right : (f : Form) → ℕ → Type 0
+    Right f q = ErrorValue.Gives 49 first q (factor-in f q S (state-in f)) (Λ-in f (state-in f)) (B-in f (state-in f)) S
+        p (e p)
+
     module _ (few : 2 * weight n e ≤ r) (agrees : (j : ℕ) → j < r → syndrome first n e j ≡ S j) where
       -- a state whose polynomials are multiples of the measure's
       multiples : (f : Form) (a b : F) → a ≢ 𝟎 → b ≢ 𝟎
-          → Λ-in f (run (form-of f) rounds k .state) ≡ K a ⊠ m .Λ
-          → B-in f (run (form-of f) rounds k .state) ≡ K b ⊠ m .B
-          → factor-in f r S (run (form-of f) rounds k .state) ≡ b ⊙ m .γ
-          → ErrorValue.Gives 49 first r (factor-in f r S (run (form-of f) rounds k .state))
-          (Λ-in f (run (form-of f) rounds k .state)) (B-in f (run (form-of f) rounds k .state)) S p (e p)
+          → Λ-in f (state-in f) ≡ K a ⊠ m .Λ → B-in f (state-in f) ≡ K b ⊠ m .B
+          → factor-in f r S (state-in f) ≡ b ⊙ m .γ → Right f r
       multiples f a b a≢0 b≢0 Λ-is B-is g-is =
           values first n r 49 S e hn few agrees p hp changed (omega (arith, iterations-le rounds k, short)) a b _ _ _
           a≢0 b≢0
           (Λ-is ∙ ap (λ m. K a ⊠ m .Λ) m-is) (B-is ∙ ap (λ m. K b ⊠ m .B) m-is) (g-is ∙ ap (λ m. b ⊙ m .γ) m-is)
 
-      in-form : (f : Form) → ErrorValue.Gives 49 first r (factor-in f r S (run (form-of f) rounds k .state))
-          (Λ-in f (run (form-of f) rounds k .state)) (B-in f (run (form-of f) rounds k .state)) S p (e p)
+      in-form : (f : Form) → Right f r
       in-form Plain =
           let x = agreement rounds k .in-plain in
           multiples Plain 𝟏 𝟏 one≢zero one≢zero (x .Λ ∙ sym (one-⊠ _)) (x .B ∙ sym (one-⊠ _)) (x .γ ∙ sym (one-⊙ _))
@@ -78,12 +82,10 @@ module _ (first n : ℕ) (e : Series) (hn : n ≤ 255) (p : ℕ) (hp : p < n) (c
           multiples Scaled _ _ (x .aS≢0) (x .bS≢0) (x .Λ) (x .B)
           (ap (λ t. t ⊙ or-one (S r)) (x .γ′) ∙ s _ _ _)
 
-      pub run-gives : Gives first r S p f (run (form-of f) rounds k .state) (e p)
+      pub run-gives : Gives first r S p f (state-in f) (e p)
       run-gives =
           let at-most : r ≡ most r = omega (arith, iterations-le rounds k, short) in
-          subst (λ q. ErrorValue.Gives 49 first q (factor-in f q S (run (form-of f) rounds k .state))
-          (Λ-in f (run (form-of f) rounds k .state)) (B-in f (run (form-of f) rounds k .state)) S p (e p))
-          at-most (in-form f)
+          subst (Right f) at-most (in-form f)
 
   -- all syndromes of the rounds
   end-gives : 2 * weight n e ≤ length (joined rounds)

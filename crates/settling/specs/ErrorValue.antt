@@ -17,7 +17,7 @@ use Prim.Native.Nat.{ℕ, suc, _+_, _*_, _≤_, _<_}
 use mathlib.Core.Path.{_≡_, sym, ap, ap₂, _∙_}
 use mathlib.Core.Logic.{_≢_}
 use native.Mathlib.Omega.{arith}
-use Rattle.field.specs.Field.{F, 𝟎, 𝟏, _⊕_, _⊙_, ⊙-assoc, ⊙-left-comm, ⊙-one, one-⊙, ⊙-zero, zero-⊙, zero-⊕}
+use Rattle.field.specs.Field.{F, 𝟎, _⊕_, _⊙_, ⊙-assoc, ⊙-left-comm, ⊙-one, one-⊙, ⊙-zero, zero-⊙, zero-⊕}
 use Rattle.field.specs.Field.{⊙-ring, ⊙-nonzero, inv, inv-zero, mul-inv, pow, pow-nonzero}
 use Rattle.series.specs.Series.{Series, K, Z, _⊞_, _⊠_, K-⊠-at, ⊠-assoc}
 use Rattle.series.specs.Degree.{below-weaken}
@@ -27,10 +27,9 @@ use Rattle.series.specs.Word.{weight}
 use Rattle.code.specs.Word.{syndrome}
 use Rattle.key_equation.specs.Plain as Plain
 use Rattle.key_equation.specs.Run.{measure}
-use Rattle.key_equation.specs.Measure.{measure-below}
-use Rattle.key_equation.specs.Shortest.{Invariant, invariant, length, c, det, key-low}
+use Rattle.key_equation.specs.Shortest.{Invariant, invariant, c, det, key-low}
 use Rattle.settling.specs.Locator.{X, W, X-W, W-nonzero, lead-is, locator, locator-root, forney}
-use Rattle.settling.specs.Twist.{inverse-multiplier, twist, untwist, untwist-at, untwist-twist, twist-zero}
+use Rattle.settling.specs.Twist.{inverse-multiplier, twist, untwist-at, untwist-twist, twist-zero}
 use Rattle.settling.specs.Twist.{weight-twist, syndrome-twist}
 use Rattle.settling.specs.Solve.{Found, found}
 
