@@ -5,11 +5,11 @@
 --   Written p d c     the block c is a codeword of the profile p with the data d, and the only one
 --   Trip b d c y o e t   data d are written to c, and y is read to e, which has o bytes: t is what was answered, and if
 --                     y is c but for changes that can be restored, e is d
+--   Both f g b y o e k t   y is read to e in the form f and to k in the form g: t is what was handed back, and the two
+--                     are alike
 --   SumOf f b y e i first k S q t   y is read to e in the form f, and the value of the error at position q of subword i
 --                     is taken in both ways: where the subword was corrected by the k syndromes S, and the received and
 --                     the corrected symbol differ, both are their sum, and neither divisor is zero
---   Both f g b y o e k t   y is read to e in the form f and to k in the form g: t is what was handed back, and the two
---                     are alike
 --
 -- Proved: what a writer accepts has rising capabilities, and what is written is the one codeword with the data
 -- (written-one). Data in a codeword that is changed within the condition of FORMAT 6.11 and read are the same, byte for
