@@ -1,5 +1,7 @@
 // For the benchmark: products by one value in three ways, exported to C. By a row of 256 products, by half-byte tables,
 // and by the bits of the other factor, with no table. Each call makes the tables that it needs, and promises the same.
+#![tactic(auto)]
+
 ghost use Rattle.std.specs.Prelude.{◌≡◌, length};
 ghost use Rattle.field.specs.Field.{of, val};
 ghost use Rattle.series.specs.Series.{K, ◌⊞◌, ◌⊠◌};

@@ -13,7 +13,7 @@
 --   word_in r o      what the output holds in the end, o being what it held
 use Rattle.std.specs.Prelude.{ℕ, ◌≤◌, ◌<◌, ◌≡◌, ◌⊎◌, Bool, true, cond, ◌&&◌, List, [], ◌∷◌, map, leb, ltb, eqb, length}
 use Rattle.std.proofs.Common.{inl, inr, ⊎_elim}
-use Rattle.std.proofs.Math.Logic.{Dec·and, Dec·of-iff}
+use Rattle.std.proofs.Math.Logic.Dec
 use Rattle.std.proofs.Math.Option.{Option, none, some}
 use Rattle.std.proofs.Math.Decide.{dec_le}
 use Rattle.field.specs.Field.{F, 𝟎, 𝟏, ◌≟◌, byte}
@@ -52,8 +52,8 @@ pub record Fits (n : ℕ) (y w : Series) : Type 0 where
 
 unfoldable pub fits? : (n : ℕ) (y w : Series) → Dec (Fits n y w)
 fits? n y w =
-    Dec·of-iff (to, from) (Dec·and (all? n (λ p. bit? (w p)))
-    (Dec·and (dec_le (weight n (w ⊞ y)) 3) (all? 6 (λ j. syndrome 1 n w j ≟ 𝟎))))
+    Dec.of_iff (to, from) (Dec.and (all? n (λ p. bit? (w p)))
+    (Dec.and (dec_le (weight n (w ⊞ y)) 3) (all? 6 (λ j. syndrome 1 n w j ≟ 𝟎))))
   where
     to : Bits n w × ((weight n (w ⊞ y) ≤ 3) × InCode 1 n 3 w) → Fits n y w
     to (b, (l, c)) = record { bits = b; near = l; code = c }

@@ -16,7 +16,7 @@ pub const TERMS: usize = 6;
 
 // The state after three iterations. B is held times x, and its length plus one, as before the first iteration they are
 // x^-1 and -1. Delta and theta have even powers only.
-#[derive(Drop)]
+#[derive(Clone, Copy)]
 pub struct Solved {
     pub locator: [Gf; TERMS],
     pub auxiliary: [Gf; TERMS],
@@ -28,7 +28,7 @@ pub struct Solved {
 }
 
 // What several formulas share: the syndromes, S_0², S_0³ and S_0⁶, S_2², Δ1 = S_2 + S_0³, S_0 S_4, and φ.
-#[derive(Drop)]
+#[derive(Clone, Copy)]
 struct Terms {
     s0: Gf,
     s2: Gf,

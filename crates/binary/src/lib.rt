@@ -2,6 +2,8 @@
 // number. The key equation is not iterated: its solution is had from direct formulas (`direct`), and the locations of
 // the wrong bits are had from the locator by logarithms and two small tables (`locations`). They are put to the test:
 // what comes out has zero syndromes. What the promises speak of stands in specs/Definition.antt.
+#![tactic(auto)]
+
 pub mod direct;
 mod locations;
 mod received;
@@ -20,7 +22,7 @@ use field::Gf;
 use profile::POSITIONS;
 
 // The refusals, each after the question that said no.
-#[derive(Drop)]
+#[derive(Clone, Copy)]
 pub enum Refusal {
     Length,
     OutputSize,
@@ -29,7 +31,7 @@ pub enum Refusal {
 }
 
 // What is answered: every question was answered by yes, or the first no.
-#[derive(Drop)]
+#[derive(Clone, Copy)]
 pub enum Answer {
     Accepted,
     Refused(Refusal),
@@ -60,7 +62,7 @@ impl Answer {
 }
 
 // Where bits are wrong, or that this cannot be told.
-#[derive(Drop)]
+#[derive(Clone, Copy)]
 struct Located {
     found: bool,
     at: Locations,

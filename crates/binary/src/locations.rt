@@ -13,7 +13,7 @@ use field::{Exponent, Gf};
 use kernel::{index, product};
 
 // Three locations; zero is none.
-#[derive(Drop)]
+#[derive(Clone, Copy)]
 pub struct Locations {
     pub a: Gf,
     pub b: Gf,

@@ -11,7 +11,7 @@ ghost use Rattle.binary.specs.Received.{PowersOf, cube, fifth, Masks};
 use field::Gf;
 
 // The syndromes S_0, S_2 and S_4, or three other values that stand for such.
-#[derive(Drop)]
+#[derive(Clone, Copy)]
 pub struct Syndromes {
     pub s0: Gf,
     pub s2: Gf,

@@ -1,6 +1,8 @@
 // A card, section by section: each is judged as it arrives, and a line is printed for it. What one section comes to,
 // and that all of them together print the list of the card, stands in specs/PrintedStep.antt and
 // specs/PrintedWhole.antt. `list` does so from standard input to standard output.
+#![tactic(auto)]
+
 mod block_line;
 mod heading;
 pub mod list;

@@ -14,7 +14,7 @@ use listing::LINE;
 use stream::Stream;
 
 // What comes next, and the streams where it does.
-#[derive(Drop)]
+#[derive(Clone, Copy)]
 struct Stepped {
     next: Section,
     stream: Stream,

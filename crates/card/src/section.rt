@@ -12,7 +12,7 @@ use profile::{Parsed, Profile};
 pub const SECTION: usize = profile::SYMBOLS;
 
 // What comes next on a card.
-#[derive(Drop)]
+#[derive(Clone, Copy)]
 pub enum Section {
     // how many bytes the profile has
     Size,
@@ -29,7 +29,7 @@ pub enum Section {
 }
 
 // What comes next after a section, and how many bytes of the line are printed.
-#[derive(Drop)]
+#[derive(Clone, Copy)]
 pub struct Judged {
     pub next: Section,
     pub size: usize,

@@ -10,7 +10,8 @@
 use Rattle.std.specs.Prelude.{ℕ, zero, suc, ◌+◌, ◌-◌, ◌*◌, ◌≤◌, ◌<◌, ◌≡◌, List, map, length}
 use Rattle.std.proofs.Math.Path.{sym, ap}
 use Rattle.std.proofs.Common.{◌∙◌, suc-mul, mul-le-mul_right}
-use Rattle.std.proofs.Math.Logic.{ite, if_pos, if_neg, Dec·and, Dec·of-iff}
+use Rattle.std.proofs.Math.Logic.{ite, if_pos, if_neg}
+use Rattle.std.proofs.Math.Logic.Dec
 use Rattle.std.proofs.Math.Option.{Option, some}
 use native.Mathlib.Omega.{arith}
 use Rattle.std.proofs.Math.Decide.{dec_lt, ℕ_discrete}
@@ -37,8 +38,8 @@ in_code? f n t w = all? (2 * t) (λ j. syndrome f n w j ≟ 𝟎)
 
 pub codeword? : (p : Profile) (s : Series) → Dec (Codeword p s)
 codeword? p s =
-    Dec·of-iff (λ (a, b). record { subwords = a; nested_words = b }, λ c. (c.subwords, c.nested_words))
-    (Dec·and
+    Dec.of_iff (λ (a, b). record { subwords = a; nested_words = b }, λ c. (c.subwords, c.nested_words))
+    (Dec.and
     (all? p.subwords (λ i. in_code? (first-root p) p.length p.t0 (subword p.length s i)))
     (all? p.nested (λ l. in_code? (first-root p) p.length (capability p (p.nested - l)) (nested p s l))))
 
@@ -48,8 +49,8 @@ carries? p d s = all? p.subwords
 
 pub encodes? : (p : Profile) (d s : Series) → Dec (Encodes p d s)
 encodes? p d s =
-    Dec·of-iff (λ (a, b). record { code = a; carries = b }, λ e. (e.code, e.carries))
-    (Dec·and (codeword? p s) (carries? p d s))
+    Dec.of_iff (λ (a, b). record { code = a; carries = b }, λ e. (e.code, e.carries))
+    (Dec.and (codeword? p s) (carries? p d s))
 
 unfoldable pub encoding : Profile → List F → Option (List F)
 encoding p d = first (block_size p) (λ w. encodes? p (entry d) (entry w))

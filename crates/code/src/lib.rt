@@ -1,1 +1,3 @@
 // Theory only. Reed-Solomon words: specs/Word.antt. What a codeword is: specs/Definition.antt.
+
+#![tactic(auto)]

@@ -1,5 +1,7 @@
 // Reading a block, or the data of a block: the questions, then what was read with its report, or a refusal. What the
 // promises speak of stands in specs/Definition.antt.
+#![tactic(auto)]
+
 pub mod prepared;
 
 ghost use Rattle.std.specs.Prelude.{◌≡◌, length};

@@ -21,7 +21,7 @@ use stages::Ending;
 use stages::report::Report;
 
 // What a reading hands back: the answer, and the report, which is the empty one for a refusal.
-#[derive(Drop)]
+#[derive(Clone, Copy)]
 pub struct Reading {
     pub answer: Answer,
     pub report: Report,

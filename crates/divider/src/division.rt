@@ -10,7 +10,7 @@ mod wide;
 use crate::packed::Packed;
 
 // The remainders of four words.
-#[derive(Drop)]
+#[derive(Clone, Copy)]
 pub struct Four(pub Packed, pub Packed, pub Packed, pub Packed);
 
 // What z^48 times the symbols from k on leaves by the polynomial of a table for degree k.

@@ -10,7 +10,7 @@ ghost use Rattle.divider.specs.Packed.{digits, packed, tops};
 use polynomial::SYNDROMES;
 
 // Six words of eight symbols each.
-#[derive(Drop)]
+#[derive(Clone, Copy)]
 pub struct Packed(pub u64, pub u64, pub u64, pub u64, pub u64, pub u64);
 
 // The word of the eight bytes from `at` on, taken from the last one down.

@@ -51,7 +51,7 @@ pub fn residue(t: &[u64], first: usize, k: usize, word: &[u8]) -> [u8; SYNDROMES
 }
 
 // The remainders of four words.
-#[derive(Drop)]
+#[derive(Clone, Copy)]
 pub struct FourResidues {
     pub first: [u8; SYNDROMES],
     pub second: [u8; SYNDROMES],

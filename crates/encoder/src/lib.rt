@@ -1,5 +1,7 @@
 // Writing a block: the one codeword with the given data in its data positions. Subwords are written from the last to
 // the first.
+#![tactic(auto)]
+
 mod carry;
 mod fours;
 
@@ -17,7 +19,7 @@ use profile::questions::Caller;
 use profile::{Answer, Parsed, Profile, Refusal};
 
 // What is left to write: the first subwords, and their data.
-#[derive(Drop)]
+#[derive(Clone, Copy)]
 struct Left {
     subwords: usize,
     symbols: usize,

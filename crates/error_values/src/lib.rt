@@ -2,6 +2,8 @@
 // Forney's formula, and by the auxiliary polynomial: FORMAT 8.19, where it is the change at a place. What the promises
 // speak of stands in specs/Definition.antt and in settling's specs/ErrorValue.antt; that both are the change at a place
 // that a pattern changes, and that no divisor is zero there, in specs/Theorems.antt.
+#![tactic(auto)]
+
 mod omega;
 
 ghost use Rattle.std.specs.Prelude.{ℕ, ◌≤◌, min, ◌≡◌};

@@ -1,6 +1,8 @@
 // The syndromes that a round of staged decoding brings: those of an unsettled subword are the syndromes of one word, a
 // sum of multiples of all subwords, and come from its remainder. What the promises speak of stands in
 // specs/Definition.antt, and for the round in staged_decoding's.
+#![tactic(auto)]
+
 pub mod lagrange;
 
 ghost use Rattle.std.specs.Prelude.{◌*◌, ◌≤◌, ◌<◌, ◌≡◌, length};

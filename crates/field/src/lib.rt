@@ -1,15 +1,17 @@
 // GF(256), the field of the code: bytes as polynomials over the two-element field, modulo z^8 + z^4 + z^3 + z^2 + 1
 // (285). The promises speak of the values F and their operations, defined in specs/Definition.antt: `val g` is the
 // value of a `Gf`. A product costs two logarithms and a power, whatever its factors are.
+#![tactic(auto)]
+
 ghost use Rattle.std.specs.Prelude.{◌<◌, ◌≡◌, map};
 ghost use Rattle.field.specs.Definition.{◌⊕◌, ◌⊙◌, α, pow, inv, log, is_zero, val, named, power_table, log_table};
 
 // A field value: bit i of the byte is the coefficient of z^i.
-#[derive(Drop)]
+#[derive(Clone, Copy)]
 pub struct Gf(pub u8);
 
 // An exponent of α, never a field value: the two tables alone lead from one to the other. Any number is one.
-#[derive(Drop)]
+#[derive(Clone, Copy)]
 pub struct Exponent(pub usize);
 
 // At k: α^k, for k below 255. The last entry is of no power, and 0.

@@ -1,6 +1,8 @@
 // The codec for C and for Rust: plain numbers and lent bytes, each slice a pointer and a length. include/gii.h says the
 // same to a C compiler. What the promises speak of stands in specs/Definition.antt and specs/NumbersDefinition.antt,
 // and in profile's specs/LayoutDefinition.antt.
+#![tactic(auto)]
+
 mod numbers;
 
 ghost use Rattle.std.specs.Prelude.{◌≡◌, eqb, length};

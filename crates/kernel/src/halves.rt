@@ -15,14 +15,14 @@ use field::Gf;
 pub const HALF: usize = 16;
 
 // The tables of a value c: entry x of `low` is x times c, entry x of `high` is 16 x times c.
-#[derive(Drop)]
+#[derive(Clone, Copy)]
 pub struct Halves {
     pub low: [u8; HALF],
     pub high: [u8; HALF],
 }
 
 // One product taken in two ways.
-#[derive(Drop)]
+#[derive(Clone, Copy)]
 pub struct TwoWays {
     pub halves: Gf,
     pub logarithms: Gf,

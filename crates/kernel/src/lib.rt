@@ -1,6 +1,8 @@
 // Hot loops over lent bytes and lent rows of products; the functions of single bytes are passed on. Products by one
 // value can also be taken from half-byte tables (`halves`).
 // The promises are equations of series: `bytes l` is the list l as the series of its entries, then zeros.
+#![tactic(auto)]
+
 mod byte;
 pub mod halves;
 mod row;

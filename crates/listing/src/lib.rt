@@ -1,5 +1,7 @@
 // The lines of the printed list, each written into the first bytes of an array that is lent. What the promises speak of
 // stands in specs/Definition.antt.
+#![tactic(auto)]
+
 pub mod text;
 
 ghost use Rattle.std.specs.Prelude.{◌++◌};

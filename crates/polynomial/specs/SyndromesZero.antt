@@ -7,7 +7,8 @@
 use Rattle.std.specs.Prelude.{ℕ, ◌<◌, ◌≡◌, ◌≢◌, true, false, List}
 use Rattle.std.proofs.Common.{sym, ap, ◌∙◌, true≢false, arith}
 use Rattle.std.proofs.Math.Path.{fun_ext}
-use Rattle.std.proofs.Math.Logic.{Dec·of-iff, by_cases}
+use Rattle.std.proofs.Math.Logic.{by_cases}
+use Rattle.std.proofs.Math.Logic.Dec
 use Rattle.std.proofs.Math.Decide.{dec_lt}
 use Rattle.field.specs.declared.Gf.{Gf}
 use Rattle.field.specs.Field.{𝟎, ◌≟◌}
@@ -19,7 +20,7 @@ pub row_zero : (l : List Gf) → ((j : ℕ) → j < 48 → row l j ≡ 𝟎) →
 row_zero l h = fun_ext (λ j. by_cases (dec_lt j 48) (h j) (λ n. below_row l j (omega arith)) ∙ sym (O-at j))
 
 unfoldable pub zero? : (l : List Gf) → Dec (row l ≡ O)
-zero? l = Dec·of-iff (row_zero l, λ e j h. ap (λ (f : Series). f j) e ∙ O-at j) (all? 48 (λ j. row l j ≟ 𝟎))
+zero? l = Dec.of_iff (row_zero l, λ e j h. ap (λ (f : Series). f j) e ∙ O-at j) (all? 48 (λ j. row l j ≟ 𝟎))
 
 module _ (l : List Gf) where
   pub zero_row : holds (zero? l) ≡ true → row l ≡ O

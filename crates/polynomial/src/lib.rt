@@ -2,6 +2,8 @@
 // A loop of products runs 16 at a time, and only over coefficients that may differ from zero.
 // The promises are equations of power series: `poly f` is the array f as a polynomial. A table of 48 syndromes is a
 // sequence, `row s`.
+#![tactic(auto)]
+
 pub mod coefficients;
 pub mod halves;
 pub mod shift;

@@ -8,7 +8,7 @@ ghost use Rattle.profile.specs.LayoutDefinition.{if_accepted, start as Start};
 use crate::{Parsed, Profile};
 
 // The symbols of a block, and how many of them are data; 0 and 0 if the profile is refused.
-#[derive(Drop)]
+#[derive(Clone, Copy)]
 pub struct Sizes {
     pub block: usize,
     pub payload: usize,

@@ -1,4 +1,6 @@
 // Profiles: what they hold, the refusals with their numbers, and the sizes that follow.
+#![tactic(auto)]
+
 pub mod fetch;
 pub mod layout;
 pub mod questions;
@@ -20,7 +22,7 @@ pub const POSITIONS: usize = 255;
 pub const SYMBOLS: usize = SUBWORDS * POSITIONS;
 
 // m subwords, v nested words, n symbols a subword, the capabilities t0 to t3, and f: the first root is α^f.
-#[derive(Drop)]
+#[derive(Clone, Copy)]
 pub struct Profile {
     pub subwords: u8,
     pub nested: u8,
@@ -33,7 +35,7 @@ pub struct Profile {
 }
 
 // The refusals, each after the question that said no.
-#[derive(Drop)]
+#[derive(Clone, Copy)]
 pub enum Refusal {
     ProfileSize,
     Subwords,
@@ -50,14 +52,14 @@ pub enum Refusal {
     Subword,
 }
 
-#[derive(Drop)]
+#[derive(Clone, Copy)]
 pub enum Parsed {
     Accepted(Profile),
     Refused(Refusal),
 }
 
 // What is answered to a caller whose buffers were judged: every question was answered by yes, or the first no.
-#[derive(Drop)]
+#[derive(Clone, Copy)]
 pub enum Answer {
     Accepted,
     Refused(Refusal),

@@ -10,7 +10,7 @@ ghost use Rattle.profile.specs.Questions.{asked, admitted, factory as Factory};
 use crate::{Parsed, Profile, Refusal};
 
 // Who asks the questions.
-#[derive(Drop)]
+#[derive(Clone, Copy)]
 pub enum Caller {
     Encoder,
     Decoder,
@@ -21,7 +21,7 @@ pub enum Caller {
 
 // What a caller lends, as far as a question looks at it: the bytes of the profile, of the input and of the output, and
 // the number of a subword.
-#[derive(Drop)]
+#[derive(Clone, Copy)]
 pub struct Lent {
     pub profile: usize,
     pub input: usize,

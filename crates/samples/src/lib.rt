@@ -1,1 +1,3 @@
 // Theory only: the proved samples stand in specs/.
+
+#![tactic(auto)]

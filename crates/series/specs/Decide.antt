@@ -6,7 +6,8 @@
 -- Proved: `holds d` is true where d's proposition holds (holds_yes), and false where it does not (holds_no).
 use Rattle.std.specs.Prelude.{ℕ, zero, suc, ◌<◌, ◌≡◌, refl, true, false}
 use Rattle.std.proofs.Common.{sym, subst, arith}
-use Rattle.std.proofs.Math.Logic.{Dec·and, Dec·of-iff, by_cases}
+use Rattle.std.proofs.Math.Logic.{by_cases}
+use Rattle.std.proofs.Math.Logic.Dec
 use Rattle.std.proofs.Math.Bool.{decide_iff}
 use Rattle.std.proofs.Math.Decide.{ℕ_discrete}
 unfoldable pub use Rattle.std.proofs.Math.Bool.{decide as holds}
@@ -21,7 +22,7 @@ holds_no (no n) h = refl
 
 unfoldable pub all? : (n : ℕ) {P : ℕ → Type 0} → ((i : ℕ) → Dec (P i)) → Dec ((i : ℕ) → i < n → P i)
 all? zero d = yes (λ i h. absurd (omega arith))
-all? (suc n) {P} d = Dec·of-iff (to, from) (Dec·and (all? n d) (d n))
+all? (suc n) {P} d = Dec.of_iff (to, from) (Dec.and (all? n d) (d n))
   where
     to : ((i : ℕ) → i < n → P i) × P n → (i : ℕ) → i < suc n → P i
     to (f, p) i h = by_cases (ℕ_discrete i n) (λ e. subst P (sym e) p) (λ e. f i (omega arith))

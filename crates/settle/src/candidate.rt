@@ -15,7 +15,7 @@ use polynomial::COEFFICIENTS;
 use profile::POSITIONS;
 
 // Whether the walk met as many roots as it should; what was put forward at the positions that it went through.
-#[derive(Drop)]
+#[derive(Clone, Copy)]
 pub struct Located {
     pub whole: bool,
     pub pattern: [Gf; POSITIONS],

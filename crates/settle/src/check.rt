@@ -17,14 +17,14 @@ use polynomial::SYNDROMES;
 use profile::POSITIONS;
 
 // Whether a pattern explains a row of syndromes, and how many symbols it changes.
-#[derive(Drop)]
+#[derive(Clone, Copy)]
 pub struct Tested {
     pub explains: bool,
     pub count: usize,
 }
 
 // How many symbols a pattern changes, and its first syndromes.
-#[derive(Drop)]
+#[derive(Clone, Copy)]
 struct Effect {
     count: usize,
     syndromes: [u8; SYNDROMES],

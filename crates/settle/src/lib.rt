@@ -1,6 +1,8 @@
 // Settling one subword: the pattern that a locator puts forward, by `candidate`, and its test, both with the first root
 // α; then the pattern for the first root that is asked for, by `untwist`. What the promises speak of stands in
 // settling's specs/Definition.antt, and for the answer in specs/Answer.antt.
+#![tactic(auto)]
+
 mod candidate;
 mod check;
 mod numerator;
@@ -24,7 +26,7 @@ const TERMS: usize = 25;
 
 // The pattern that settles a subword, and how many symbols it changes; or that none was found, and then the pattern is
 // zero.
-#[derive(Drop)]
+#[derive(Clone, Copy)]
 pub struct Settled {
     pub found: bool,
     pub count: u8,

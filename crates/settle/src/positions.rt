@@ -25,18 +25,18 @@ const LANES: usize = 32;
 
 // A term by its exponent of α in one byte, never a field value: below 255 the power of that exponent, 255 for zero, as
 // the table of powers has it.
-#[derive(Drop)]
+#[derive(Clone, Copy)]
 struct Lane(u8);
 
 // A term that is zero.
 const NONE: Lane = Lane(255);
 
 // What the exponent of a term loses from a position to the next.
-#[derive(Drop)]
+#[derive(Clone, Copy)]
 struct Loss(u8);
 
 // The sums of the terms whose index is 0, 1 or 2 modulo 3; or the values at three positions, 85 from one another.
-#[derive(Drop)]
+#[derive(Clone, Copy)]
 struct Three {
     a: Gf,
     b: Gf,

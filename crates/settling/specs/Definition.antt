@@ -6,7 +6,7 @@
 --   Explains f t n s e   it is, and its syndromes, the first root being α^f, are those of s
 --   settle f t n s       the pattern that explains s; none if there is none
 use Rattle.std.specs.Prelude.{ℕ, ◌*◌, ◌≤◌, ◌<◌, ◌≡◌, List}
-use Rattle.std.proofs.Math.Logic.{Dec·and, Dec·of-iff}
+use Rattle.std.proofs.Math.Logic.Dec
 use Rattle.std.proofs.Math.Option.{Option}
 use Rattle.std.proofs.Math.Decide.{dec_le}
 use Rattle.field.specs.Field.{F, ◌≟◌}
@@ -27,7 +27,7 @@ pub record Explains (f t n : ℕ) (s e : Series) : Type 0 where
 
 unfoldable pub explains? : (f t n : ℕ) (s e : Series) → Dec (Explains f t n s e)
 explains? f t n s e =
-    Dec·of-iff (to, from) (Dec·and (dec_le (weight n e) t) (all? (2 * t) (λ j. syndrome f n e j ≟ s j)))
+    Dec.of_iff (to, from) (Dec.and (dec_le (weight n e) t) (all? (2 * t) (λ j. syndrome f n e j ≟ s j)))
   where
     to : Within t n e × ((j : ℕ) → j < 2 * t → syndrome f n e j ≡ s j) → Explains f t n s e
     to (w, h) = record { within = w; syndromes = h }

@@ -1,4 +1,6 @@
 // A key-equation solver in a named form.
+#![tactic(auto)]
+
 pub mod continuation;
 pub mod lookahead;
 pub mod plain;
@@ -21,7 +23,7 @@ use field::Gf;
 use polynomial::SYNDROMES;
 
 // The three forms of the solver: plain, ahead and scaled in FORMAT 8.
-#[derive(Drop)]
+#[derive(Clone, Copy)]
 pub enum Form {
     Plain,
     Lookahead,
@@ -29,7 +31,7 @@ pub enum Form {
 }
 
 // A solver in each form at once: the named form's state goes on, and the two others stay as they were.
-#[derive(Drop)]
+#[derive(Clone, Copy)]
 pub struct Solver {
     pub form: Form,
     pub plain: Plain,

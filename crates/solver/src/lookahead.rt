@@ -21,7 +21,7 @@ use polynomial::{COEFFICIENTS, SYNDROMES, product};
 // being the syndromes so far and δ, θ the constant terms of Δ and Θ: gamma_s is γ S_(r+1), delta_s is δ S_(r+1),
 // theta_s is θ S_(r+2), g1 is S_(r+1) S_(r+3), g2 is S_(r+2) S_(r+3), h1 is γ S_(r+2), h2 is γ S_(r+1) S_(r+2). After r
 // iterations k is r - 2L.
-#[derive(Drop)]
+#[derive(Clone, Copy)]
 pub struct Lookahead {
     pub locator: [Gf; COEFFICIENTS],
     pub auxiliary: [Gf; COEFFICIENTS],

@@ -11,7 +11,7 @@ use field::Gf;
 use polynomial::{COEFFICIENTS, SYNDROMES};
 
 // The state of the plain form: Λ, B, γ and the length L. After r iterations k is r - 2L.
-#[derive(Drop)]
+#[derive(Clone, Copy)]
 pub struct Plain {
     pub locator: [Gf; COEFFICIENTS],
     pub auxiliary: [Gf; COEFFICIENTS],

@@ -12,7 +12,7 @@ use field::Gf;
 use polynomial::SYNDROMES;
 
 // Where a run is: the solver as it was handed back last, the iterations so far, and which of them were swaps.
-#[derive(Drop)]
+#[derive(Clone, Copy)]
 pub struct Progress {
     pub solver: Solver,
     pub iterations: u8,
@@ -54,7 +54,7 @@ fn reach(known: usize, entered: usize, syndromes: &[u8], lengths: &[u8]) -> usiz
 }
 
 // A run on its way: the syndromes so far and how many they are, and how many rounds have been entered.
-#[derive(Drop)]
+#[derive(Clone, Copy)]
 struct Walk {
     progress: Progress,
     syndromes: [Gf; SYNDROMES],

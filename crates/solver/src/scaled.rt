@@ -17,7 +17,7 @@ use polynomial::{COEFFICIENTS, SYNDROMES, product};
 
 // The state of the scaled form: Λ, B, γ', the length L, Δ and Θ. After r iterations k is r - 2L, and the five scalars
 // of FORMAT 8.10 are held for iteration r.
-#[derive(Drop)]
+#[derive(Clone, Copy)]
 pub struct Scaled {
     pub locator: [Gf; COEFFICIENTS],
     pub auxiliary: [Gf; COEFFICIENTS],
@@ -33,7 +33,7 @@ pub struct Scaled {
 }
 
 // The products of an iteration: ρ_S Λ, ξ_S zB, ρ Δ/z and ξ Θ.
-#[derive(Drop)]
+#[derive(Clone, Copy)]
 struct Products {
     locator: [Gf; COEFFICIENTS],
     auxiliary: [Gf; COEFFICIENTS],

@@ -15,7 +15,7 @@ use settle::Settled;
 use solver::{Form, Solver};
 
 // The solver after the stage, kept for the next one, and what it found.
-#[derive(Drop)]
+#[derive(Clone, Copy)]
 pub struct Attempted {
     pub solver: Solver,
     pub settled: Settled,

@@ -1,5 +1,7 @@
 // Staged decoding of a block that is lent: subwords are corrected in place, stage after stage. What the promises speak
 // of stands in staged_decoding's specs/Definition.antt; how the values here show it, in specs/View.antt.
+#![tactic(auto)]
+
 mod attempt;
 pub mod report;
 mod subword;
@@ -20,7 +22,7 @@ use profile::{Profile, SUBWORDS};
 use solver::Form;
 
 // All subwords after a stage.
-#[derive(Drop)]
+#[derive(Clone, Copy)]
 struct Staged {
     pending: [bool; SUBWORDS],
     lines: [Line; SUBWORDS],
@@ -28,7 +30,7 @@ struct Staged {
 
 // How decoding ended, after which stage: every subword is settled, or too many are not. The line of one that is not
 // settled says clean, and its solver is at the end of that stage.
-#[derive(Drop)]
+#[derive(Clone, Copy)]
 pub struct Ending {
     pub settled: bool,
     pub stage: u8,

@@ -9,7 +9,7 @@ use profile::SUBWORDS;
 use solver::{Form, Solver};
 
 // Clean, or corrected with so many changes at that stage.
-#[derive(Drop)]
+#[derive(Clone, Copy)]
 pub enum Verdict {
     Clean,
     Corrected(u8, u8),
@@ -17,7 +17,7 @@ pub enum Verdict {
 
 // The line of a subword: the verdict, how many of its bits were changed, and the last state of its solver, which is at
 // its start if the subword is clean.
-#[derive(Drop)]
+#[derive(Clone, Copy)]
 pub struct Line {
     pub verdict: Verdict,
     pub bits: u16,
@@ -26,7 +26,7 @@ pub struct Line {
 
 // The lines of the subwords, lines that are no subword's being clean; how many symbols and how many bits were changed;
 // the last stage entered.
-#[derive(Drop)]
+#[derive(Clone, Copy)]
 pub struct Report {
     pub lines: [Line; SUBWORDS],
     pub changed: u16,

@@ -28,7 +28,7 @@ use solver::{Form, Solver};
 const PART: usize = 51;
 
 // A subword after a stage. The verdict of one that is pending, not settled yet, is clean.
-#[derive(Drop)]
+#[derive(Clone, Copy)]
 pub struct StagedSubword {
     pub pending: bool,
     pub line: Line,

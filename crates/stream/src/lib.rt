@@ -6,6 +6,8 @@
 // A call that is interrupted, or that would have to wait, is made again. A `Stream` tells whether a call failed for
 // another reason; errno then says which, until the next call. A `Stream` that was handed to a function is used no more:
 // the streams go on as the one that comes back.
+#![tactic(auto)]
+
 ghost use Rattle.std.specs.Prelude.{◌≡◌, ◌<◌, ◌≤◌, true, length, take};
 ghost use Rattle.io.specs.Counts.{IsPrefixLen};
 ghost use Rattle.stream.specs.Definition.{Opened, Still, Took, Gave, Marks, Reads, Lost, Writes};
@@ -14,7 +16,7 @@ ghost use Rattle.stream.specs.Definition.{Opened, Still, Took, Gave, Marks, Read
 const TRIES: u64 = 18446744073709551615;
 
 // The streams of a program.
-#[derive(Drop)]
+#[derive(Clone, Copy)]
 pub struct Stream {
     // how many bytes were read, and how many were written, modulo 2^64
     taken: u64,
@@ -28,7 +30,7 @@ pub struct Stream {
 }
 
 // What a call moved: the streams after it, and how many bytes at the start of the array.
-#[derive(Drop)]
+#[derive(Clone, Copy)]
 pub struct Moved {
     pub stream: Stream,
     pub size: usize,

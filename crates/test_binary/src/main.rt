@@ -9,6 +9,8 @@
 // Standard input is the number of cases and the cases. A case is a byte, 0 for a word and 1 for syndromes; for a word
 // its size, the word and the size of the output; for syndromes three bytes. These numbers have two bytes, the high byte
 // first.
+#![tactic(auto)]
+
 use binary::direct::{Solved, TERMS};
 use field::Gf;
 use kernel::index;

@@ -5,6 +5,8 @@
 //
 // Standard input is the number of cards and the cards, each after its size. These numbers have two bytes, the high
 // byte first.
+#![tactic(auto)]
+
 ghost use Rattle.std.specs.Prelude.{◌≤◌, ◌<◌, ◌≡◌, false};
 ghost use Rattle.card.specs.SectionDefinition.{over, left};
 

@@ -12,6 +12,8 @@
 // and 3 for data; a byte with the size of the profile, and the profile; for a write the size of the data, the data and
 // the size of the output; for a fetch the size of the block, the block and the number of the subword; for data the size
 // of the block, the block and the size of the output. These numbers have two bytes, the high byte first.
+#![tactic(auto)]
+
 use listing::text::put;
 use profile::{Answer, Parsed};
 use solver::Form;

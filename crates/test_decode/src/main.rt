@@ -15,6 +15,8 @@
 // Standard input is the number of cases and the cases. A case is a byte, 1 for one with states; a byte with the size of
 // the profile, and the profile; the size of the block, and the block; the size of the output. These numbers have two
 // bytes, the high byte first.
+#![tactic(auto)]
+
 ghost use Rattle.std.specs.Prelude.{◌≤◌};
 
 use listing::text::{digits, put};

@@ -2,6 +2,8 @@
 // below 255, the inverses of the bytes from 1 on, and for every byte its products with all bytes. Then these products
 // twice more, by half-byte tables of the first factor: one by one, and by tables that are lent, where loops over words
 // and polynomials take turns. The file `stdout` holds the same numbers from an independent program.
+#![tactic(auto)]
+
 use field::{Exponent, Gf};
 use kernel::halves;
 use kernel::halves::Halves;

@@ -3,6 +3,8 @@
 //
 // On standard input: the number of lists of rounds, two bytes, the high byte first; then for each list a byte with the
 // number of rounds, one with the number of syndromes, the rounds' lengths, the syndromes.
+#![tactic(auto)]
+
 use listing::text::put;
 use solver::Form;
 use test_support::{input, output, print, state};

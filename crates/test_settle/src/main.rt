@@ -6,6 +6,8 @@
 // `stdout` holds the same lines from an independent model.
 //
 // A case on standard input is a byte with t, one with n, one with f, and 2t syndromes. The first root is α^f.
+#![tactic(auto)]
+
 ghost use Rattle.std.specs.Prelude.{◌≤◌, ◌<◌, length};
 
 use field::Gf;

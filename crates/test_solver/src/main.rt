@@ -4,6 +4,8 @@
 //
 // A list of rounds on standard input is a byte with the number of rounds, one with the number of syndromes, the rounds'
 // lengths, the syndromes.
+#![tactic(auto)]
+
 ghost use Rattle.std.specs.Prelude.{◌<◌, length};
 
 use field::Gf;

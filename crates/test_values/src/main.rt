@@ -8,6 +8,8 @@
 // On standard input: the number of cases, two bytes, the high byte first. A case is a byte each for f, the number of
 // rounds, the number of syndromes, how many events of the run happen, how many syndromes are known then, k, and the
 // number of positions; then the rounds' lengths, the syndromes, the positions. The first root is α^f.
+#![tactic(auto)]
+
 ghost use Rattle.std.specs.Prelude.{◌≤◌, length};
 
 use field::Gf;
@@ -18,7 +20,7 @@ use solver::{Form, Solver};
 use test_support::{input, output, print, state};
 
 // How far a run goes, the syndromes that are known then, and the number of iterations that is told.
-#[derive(Drop)]
+#[derive(Clone, Copy)]
 struct Run {
     events: usize,
     known: [Gf; SYNDROMES],

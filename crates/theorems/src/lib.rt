@@ -1,5 +1,7 @@
 // What calls of the codec come to together. Each function here makes the calls that a headline is about, and its
 // promise is the headline; no program needs them. specs/Theorems.antt states the same without calls.
+#![tactic(auto)]
+
 ghost use Rattle.std.specs.Prelude.{◌<◌, ◌≡◌, length};
 ghost use Rattle.polynomial.specs.Polynomial.{row};
 ghost use Rattle.theorems.specs.Theorems.{Trip as RoundTrip, Both as EndAlike, SumOf};
@@ -11,21 +13,21 @@ use profile::Answer;
 use solver::Form;
 
 // The answer of a writer, and what a reader hands back.
-#[derive(Drop)]
+#[derive(Clone, Copy)]
 pub struct Trip {
     pub written: Answer,
     pub read: Reading,
 }
 
 // Two readings.
-#[derive(Drop)]
+#[derive(Clone, Copy)]
 pub struct Pair {
     pub one: Reading,
     pub other: Reading,
 }
 
 // A reading, and the value of an error in two ways.
-#[derive(Drop)]
+#[derive(Clone, Copy)]
 pub struct Values {
     pub read: Reading,
     pub evaluator: Gf,

@@ -9,7 +9,7 @@ ghost use Rattle.divider.specs.DivisionLeaves.{Leaves};
 use crate::packed::Packed;
 
 // The remainders of two words.
-#[derive(Drop)]
+#[derive(Clone, Copy)]
 pub struct Pair(pub Packed, pub Packed);
 
 // Moves the state one symbol up and adds the row that takes the last symbol away.
