@@ -12,8 +12,6 @@ overflow_add-data c = omega (arith, end_in c.requires)
 pub overflow_add-end : goal.overflow_add-end
 overflow_add-end c = omega (arith, end_in c.requires)
 
--- OLD slice-bounds-result-end = omega (arith, end_in c.before.before.before.requires)
-
 pub returns : goal.returns
 returns c =
     let p = c.args.p in

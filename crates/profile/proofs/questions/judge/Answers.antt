@@ -1,6 +1,6 @@
 -- Question after question, from the last back to the first; then what each of them asks.
 use Rattle.std.proofs.Common.{ap, ap₂, eqb, refl, sym, true, ◌||◌, ◌∙◌}
-use Rattle.profile.specs.declared.Refusal.TheVariants.{ProfileSize}
+use Rattle.profile.specs.declared.Refusal.TheVariants.{ProfileSize, Subwords, Nested, Capabilities, Length, FirstRoot}
 use Rattle.profile.specs.declared.Parsed.TheVariants.{Accepted}
 use Rattle.profile.specs.Questions.{put}
 use Rattle.profile.specs.QuestionsLaws.{next, asked_in_order}
@@ -21,12 +21,12 @@ returns c =
     (next _ c.ask-a-10.ensures (ap₂ ◌||◌ e d) (ap (eqb l.output) symbols)
     (next _ c.ask-a-9.ensures (ap₂ ◌||◌ (ap₂ ◌||◌ d f) x) (ap (eqb l.input) symbols)
     (next _ c.ask-a-8.ensures e (ap (eqb l.input) data_size)
-    (next _ c.ask-a-7.ensures refl c.root.ensures
-    (next _ c.ask-a-6.ensures refl c.length.ensures
+    (next {s = true} FirstRoot c.ask-a-7.ensures refl c.root.ensures
+    (next {s = true} Length c.ask-a-6.ensures refl c.length.ensures
     (next _ c.ask-a-5.ensures e c.rising.ensures
-    (next _ c.ask-a-4.ensures refl c.capabilities.ensures
-    (next _ c.ask-a-3.ensures refl c.nested.ensures
-    (next _ c.ask-a-2.ensures refl c.subwords.ensures
+    (next {s = true} Capabilities c.ask-a-4.ensures refl c.capabilities.ensures
+    (next {s = true} Nested c.ask-a-3.ensures refl c.nested.ensures
+    (next {s = true} Subwords c.ask-a-2.ensures refl c.subwords.ensures
     (c.ask-a.ensures
     ∙ ap (λ g. put true g ProfileSize (Accepted given.p)) c.size.ensures)))))))))))
     ∙ sym (asked_in_order given.caller l given.p)
