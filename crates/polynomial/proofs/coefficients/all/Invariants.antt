@@ -1,0 +1,12 @@
+-- The first i coefficients stand.
+use Rattle.std.proofs.Common.{length, ◌-◌, ◌≡◌}
+use Rattle.series.specs.Shift.{cut}
+use Rattle.series.specs.Array.{bytes}
+use Rattle.polynomial.specs.Polynomial.{poly}
+use Rattle.polynomial.proofs.coefficients.all.Given as goal
+
+abbrev pub invariant-loop-i : goal.invariant-loop-i
+invariant-loop-i l = (length l.out ≡ 49) × (bytes l.out ≡ cut l.i (poly l.f))
+
+abbrev pub decreases-loop-i : goal.decreases-loop-i
+decreases-loop-i l = 49 - l.i
