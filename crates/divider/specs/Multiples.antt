@@ -6,7 +6,7 @@
 --   Slim k r          what a row for degree k does not hold of r is zero
 --   lower row t       row 1: the lower coefficients of the polynomial z^48 + lower row t that the table is for
 --   Multiples row t   t is such a table
-use Rattle.std.specs.Prelude.{ℕ, ◌+◌, ◌-◌, ◌*◌, ◌≤◌, ◌<◌, ◌≡◌, refl, List, length, get_or}
+use Rattle.std.specs.Prelude.{ℕ, ◌+◌, ◌*◌, ◌≤◌, ◌<◌, ◌≡◌, refl, List, length, get_or}
 use Rattle.std.proofs.Math.Decide.{dec_le}
 use Rattle.std.proofs.Common.{arith}
 use Rattle.field.specs.Field.{of}
