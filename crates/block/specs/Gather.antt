@@ -18,7 +18,7 @@ use Rattle.profile.specs.Definition.{checks, data_size, data_length, data_start}
 use Rattle.profile.specs.Valid.{checks-below, data_size-is, data_start-most}
 use Rattle.profile.specs.FetchDefinition.{part}
 use Rattle.profile.specs.FetchLaws.{Within, end_in}
-use Rattle.code.specs.Definition.{subword, Encodes}
+use Rattle.code.specs.Definition.{Encodes}
 use Rattle.code.specs.Block.{subword-at}
 use Rattle.block.specs.Parts.{Fits, inside}
 
