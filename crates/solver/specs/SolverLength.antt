@@ -30,8 +30,11 @@ in-form Scaled rounds k = (least-length rounds k).in_scaled
 
 -- what `length` promises
 pub length-least : (s : Solver) (l : ℕ) → HasLength s l
-    → HasLength s l × ((f : Form) (rounds : List (List F)) (k : ℕ) → Stands f rounds k s → ComplexityAfter rounds k l)
-length-least s l has = (has, least)
+    → record {
+      has_length : HasLength s l;
+      least : (f : Form) (rounds : List (List F)) (k : ℕ) → Stands f rounds k s → ComplexityAfter rounds k l;
+    }
+length-least s l has = record { has_length = has; least = least }
   where
     least : (f : Form) (rounds : List (List F)) (k : ℕ) → Stands f rounds k s → ComplexityAfter rounds k l
     least f rounds k stands =

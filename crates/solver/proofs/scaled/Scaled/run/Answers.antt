@@ -1,0 +1,13 @@
+use Rattle.std.proofs.Common.{arith}
+use Rattle.solver.specs.SwapIterations.{iterating-none, iterating-more, iterating-all}
+use Rattle.solver.specs.ScaledView.{scaled}
+use Rattle.solver.proofs.scaled.Scaled.run.Goals as goal
+
+pub loop-r-init : goal.loop-r-init
+loop-r-init c = iterating-none
+
+pub loop-r-preserved : goal.loop-r-preserved
+loop-r-preserved c = iterating-more c.loop-r.invariant (omega arith) c.iterate-p.ensures
+
+pub returns : goal.returns
+returns c = let end = c.loop-r in iterating-all (λ r. scaled r end.p) end.invariant (omega arith)
