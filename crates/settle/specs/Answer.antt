@@ -51,8 +51,10 @@ pub record Sound (f t n : ℕ) (s : Series) (r : Settled) : Type 0 where
 
 -- both promises
 abbrev Promised : (f t n L : ℕ) (s Λ : Series) → Settled → Type 0
-Promised f t n L s Λ r =
-    Sound f t n s r × (Multiple Λ (measure s (2 * t)).Λ → L ≡ length s (2 * t) → answer n r ≡ settle f t n s)
+Promised f t n L s Λ r = record {
+  sound : Sound f t n s r;
+  settled : Multiple Λ (measure s (2 * t)).Λ → L ≡ length s (2 * t) → answer n r ≡ settle f t n s;
+}
 
 answer-nothing : (n : ℕ) (r : Settled) → Nothing r → answer n r ≡ none
 unfolding answer
@@ -82,17 +84,20 @@ prefix-is m l f h e = read_prefix of 0 of_zero m l h ∙ ap (cut m) e ∙ below-
 
 module _ (t n L : ℕ) (s Λ : Series) (r : Settled) (hn : n ≤ 255) where
   pub long : Nothing r → t < L → Promised 1 t n L s Λ r
-  long z h = (sound-nothing 1 t n s r z, λ scaled is. answer-nothing n r z ∙ sym (settle-long t n s hn (omega arith)))
+  long z h = record {
+    sound = sound-nothing 1 t n s r z;
+    settled = λ scaled is. answer-nothing n r z ∙ sym (settle-long t n s hn (omega arith));
+  }
 
   -- after a walk over k coefficients
   module _ (k : ℕ) (Ω : Series) (whole : Bool) (pattern : List Gf) (enough : L < k)
       (w : Walked n k L Λ Ω whole pattern) where
     pub few : Nothing r → whole ≡ false → Promised 1 t n L s Λ r
-    few z h = (
-      sound-nothing 1 t n s r z,
-      λ scaled is.
-          answer-nothing n r z ∙ sym (settle-roots t n k s Λ hn scaled (omega arith) (λ e. omega (arith, w.few h))),
-    )
+    few z h = record {
+      sound = sound-nothing 1 t n s r z;
+      settled = λ scaled is.
+          answer-nothing n r z ∙ sym (settle-roots t n k s Λ hn scaled (omega arith) (λ e. omega (arith, w.few h)));
+    }
 
     -- where the walk met L roots, its pattern is right
     module _ (short : L ≤ t) (Ω-is : Ω ≡ cut L (Λ ⊠ s)) (all : whole ≡ true)
@@ -124,59 +129,60 @@ module _ (t n L : ℕ) (s Λ : Series) (r : Settled) (hn : n ≤ 255) where
 
     pub refused : Nothing r → L ≤ t → Ω ≡ cut L (Λ ⊠ s) → whole ≡ true
         → holds (explains? 1 t n s (values pattern)) ≡ false → Promised 1 t n L s Λ r
-    refused z short Ω-is all h = (
-      sound-nothing 1 t n s r z,
-      λ scaled is. answer-nothing n r z ∙ sym (settle_test 1 t n s (values pattern) hn (right short Ω-is all scaled is)
-          ∙ if_neg (explains? 1 t n s (values pattern)) (test-failed (explains? 1 t n s (values pattern)) h) _ _),
-    )
+    refused z short Ω-is all h = record {
+      sound = sound-nothing 1 t n s r z;
+      settled = λ scaled is. answer-nothing n r z
+          ∙ sym (settle_test 1 t n s (values pattern) hn (right short Ω-is all scaled is)
+          ∙ if_neg (explains? 1 t n s (values pattern)) (test-failed (explains? 1 t n s (values pattern)) h) _ _);
+    }
 
     -- here the locator does not matter
     pub found : r.found ≡ true → r.pattern ≡ pattern → r.count ≡ weight n (values pattern)
         → holds (explains? 1 t n s (values pattern)) ≡ true
         → Promised 1 t n L s Λ r
     found f p c h =
-        let x : Explains 1 t n s (values r.pattern) = rw p (test-passed (explains? 1 t n s (values pattern)) h) in (
-          record {
+        let x : Explains 1 t n s (values r.pattern) = rw p (test-passed (explains? 1 t n s (values pattern)) h) in record {
+          sound = record {
             explains = λ _. x;
             nothing = λ g. absurd (true≢false (sym f ∙ g));
             count = c ∙ ap (λ l. weight n (values l)) (sym p);
             within = rw p (walked-below w);
-          },
-          λ scaled is. answer-found n r f ∙ sym (settle-one 1 t n s _ hn x),
-        )
+          };
+          settled = λ scaled is. answer-found n r f ∙ sym (settle-one 1 t n s _ hn x);
+        }
 
 -- ---- any first root: r is the answer with the first root α
 
 module _ (f t n L : ℕ) (s Λ : Series) (r : Settled) (hn : n ≤ 255) (promised : Promised 1 t n L s Λ r) where
   pub untwist-nothing : r.found ≡ false → Promised f t n L s Λ r
-  untwist-nothing h = (
-    sound-nothing f t n s r z,
-    λ scaled is.
+  untwist-nothing h = record {
+    sound = sound-nothing f t n s r z;
+    settled = λ scaled is.
         answer-nothing n r z
         ∙ sym (settle-untwisted f t n s hn
-        ∙ ap (untwisted f n) (sym (promised.1 scaled is) ∙ answer-nothing n r z)),
-  )
+        ∙ ap (untwisted f n) (sym (promised.settled scaled is) ∙ answer-nothing n r z));
+  }
     where
       z : Nothing r
-      z = promised.0.nothing h
+      z = promised.sound.nothing h
 
   -- q is the answer with the pattern untwisted
   pub untwist-found : r.found ≡ true → (q : Settled) → q.found ≡ true → q.count ≡ r.count
       → values q.pattern ≡ cut n (untwist f (values r.pattern)) → Promised f t n L s Λ q
-  untwist-found h q found count is = (
-    record {
+  untwist-found h q found count is = record {
+    sound = record {
       explains = λ _. explains_cong f t n s _ _ (λ p l. sym (at p l))
-          (explains-untwist f t n s _ (promised.0.explains h));
+          (explains-untwist f t n s _ (promised.sound.explains h));
       nothing = λ g. absurd (true≢false (sym found ∙ g));
-      count = count ∙ promised.0.count ∙ sym (weight_cong n _ _ at ∙ weight-untwist f (values r.pattern) n);
+      count = count ∙ promised.sound.count ∙ sym (weight_cong n _ _ at ∙ weight-untwist f (values r.pattern) n);
       within = rw is (below-cut n _);
-    },
-    λ scaled same.
+    };
+    settled = λ scaled same.
         answer-found n q found
         ∙ ap some (word_ext n _ _ (length-word n _) (length-word n _) (λ p l. entry-word n _ p l ∙ at p l
         ∙ sym (entry-word n _ p l ∙ untwist_cong f _ _ p (entry-word n (values r.pattern) p l))))
-        ∙ sym (settle-untwisted f t n s hn ∙ ap (untwisted f n) (sym (promised.1 scaled same) ∙ answer-found n r h)),
-  )
+        ∙ sym (settle-untwisted f t n s hn ∙ ap (untwisted f n) (sym (promised.settled scaled same) ∙ answer-found n r h));
+  }
     where
       at : (p : ℕ) → p < n → values q.pattern p ≡ untwist f (values r.pattern) p
       at p l = ap (λ (e : Series). e p) is ∙ cut_low n _ p l
