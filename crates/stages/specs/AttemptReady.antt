@@ -38,13 +38,19 @@ module _ (p : Profile) (r : ℕ) where
 module _ (p : Profile) (ok : Valid p) (r : ℕ) (h : r ≤ p.nested) (S : Series) (s q : Solver) (a : Settled) where
   pub kept : (u v t : ℕ) → u ≡ seen_before p r → v ≡ 2 * capability p r → t ≡ capability p r → Advanced u v S s q
       → Tried (first-root p) t p.length S q a
-      → Sound (first-root p) (capability p r) p.length S a
-      × (((f : Form) → Ready p f r S s → answer p.length a ≡ settle_at p r S)
-      × ((f : Form) → Ready p f r S s → Ended f (rounds_of p S r) q))
+      → record {
+        sound : Sound (first-root p) (capability p r) p.length S a;
+        settled : (f : Form) → Ready p f r S s → answer p.length a ≡ settle_at p r S;
+        solver : (f : Form) → Ready p f r S s → Ended f (rounds_of p S r) q;
+      }
   kept u v t eu ev et advanced tried =
       let at : Tried (first-root p) (capability p r) p.length S q a =
       subst (λ t. Tried (first-root p) t p.length S q a) et tried in
-      (at.0, (λ f ready. at.1 f _ (end f ready) (rounds-joined p ok S r h), end))
+      record {
+        sound = at.0;
+        settled = λ f ready. at.1 f _ (end f ready) (rounds-joined p ok S r h);
+        solver = end;
+      }
     where
       end : (f : Form) → Ready p f r S s → Ended f (rounds_of p S r) q
       end f = ready_advance p ok f S s r q h

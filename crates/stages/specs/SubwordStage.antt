@@ -8,7 +8,6 @@ use Rattle.std.specs.Prelude.{ℕ, zero, suc, ◌+◌, ◌-◌, ◌*◌, ◌≤�
 use Rattle.std.proofs.Math.Path.{refl, sym, ap, fun_ext, subst}
 use Rattle.std.proofs.Common.{ap₂, ◌∙◌, true≢false, arith, add-zero, add-one, eqb-true, eq-eqb, ne_eqb}
 use Rattle.std.proofs.Math.Logic.{by_cases}
-use Rattle.std.proofs.Math.Option.{some}
 use Rattle.std.proofs.Math.Decide.{dec_lt, ℕ_discrete}
 use Rattle.std.specs.Int.Bits.{bit_xor}
 use Rattle.std.proofs.lemmas.Nat.{xor_lt}
