@@ -20,7 +20,7 @@ use Rattle.code.specs.Encoding.{codeword?}
 use Rattle.block.specs.Parts.{Fits}
 use Rattle.code.specs.Check.{Subwords}
 use Rattle.solver.specs.declared.Form.{Form}
-use Rattle.staged_decoding.specs.Definition.{total, count_of, Line, settled, report, decode}
+use Rattle.staged_decoding.specs.Definition.{total, count_of, Line, report, decode}
 use Rattle.staged_decoding.specs.Count.{total_cong}
 use Rattle.staged_decoding.specs.Foreign.{settled-subwords}
 use Rattle.staged_decoding.specs.Clean.{untouched, decode-codeword}
