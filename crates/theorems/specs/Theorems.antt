@@ -20,7 +20,7 @@ use Rattle.std.specs.Prelude.{ℕ, zero, suc, ◌+◌, ◌*◌, ◌<◌, ◌≡�
 use Rattle.std.proofs.Common.{sym, ap, ◌∙◌, subst, arith}
 use Rattle.std.proofs.lemmas.List.{length-map}
 use Rattle.field.specs.Field.{F, ◌⊕◌, ⊕-equal, of, byte, byte_lt, val}
-use Rattle.series.specs.Series.{Series, ◌⊞◌, ⊞-at}
+use Rattle.series.specs.Series.{Series, ⊞-at}
 use Rattle.series.specs.Shift.{cut, cut_low}
 use Rattle.series.specs.Array.{bytes, bytes-entry, bytes_word, word_bytes}
 use Rattle.profile.specs.declared.Profile.{Profile}
