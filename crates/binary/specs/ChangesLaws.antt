@@ -27,7 +27,6 @@ use Rattle.settling.specs.Locator.{X, lead_is, root-power}
 use Rattle.binary.specs.Coefficients.{zero-pow}
 use Rattle.binary.specs.Definition.{Bits, Fits, answer}
 use Rattle.binary.specs.Answer.{bits-sum, code_even, fits-explains, answer-one, answer-never}
-use Rattle.binary.specs.Changes as Changes
 use Rattle.binary.specs.Changes.{Within, spike, changed, Explained, Changes}
 
 -- ---- one change

@@ -1,0 +1,32 @@
+-- The test: each location is within n, and the sums of their odd powers are the syndromes.
+use Rattle.std.proofs.Common.{ap, ap₂, ◌∙◌}
+use Rattle.field.specs.Field.{F, ◌⊕◌, val}
+use Rattle.binary.specs.Located.{tests_outside, tests-sums}
+use Rattle.binary.proofs.test.Goals as goal
+
+pub returns-then-not-within : goal.returns-then-not-within
+returns-then-not-within c = tests_outside _ _ _ _ _ _ _ (λ w. c.within.ensures.no (c.if-not-within.true) w.0)
+
+pub returns-then-not-within-2 : goal.returns-then-not-within-2
+returns-then-not-within-2 c = tests_outside _ _ _ _ _ _ _ (λ w. c.within-2.ensures.no (c.if-not-within-2.true) w.1)
+
+pub returns-then-not-within-3 : goal.returns-then-not-within-3
+returns-then-not-within-3 c = tests_outside _ _ _ _ _ _ _ (λ w. c.within-3.ensures.no (c.if-not-within-3.true) w.2)
+
+pub returns : goal.returns
+returns c =
+    let s = c.args.s in
+    let all = c.sum.ensures in
+    let three = c.sum-three.ensures in
+    let two = c.sum-two.ensures in
+    let x = c.single.ensures in
+    let y = c.single-2.ensures in
+    let z = c.single-3.ensures in
+    tests-sums _ _ _ _ _ _ _
+    (c.within.ensures.yes (c.if-not-within.false))
+    (c.within-2.ensures.yes (c.if-not-within-2.false))
+    (c.within-3.ensures.yes (c.if-not-within-3.false)) _ _ _
+    (all.0 ∙ ap (λ (t : F). t ⊕ val s.s0) (three.0 ∙ ap₂ ◌⊕◌ (two.0 ∙ ap₂ ◌⊕◌ x.0 y.0) z.0))
+    (all.1 ∙ ap (λ (t : F). t ⊕ val s.s2) (three.1 ∙ ap₂ ◌⊕◌ (two.1 ∙ ap₂ ◌⊕◌ x.1 y.1) z.1))
+    (all.2 ∙ ap (λ (t : F). t ⊕ val s.s4) (three.2 ∙ ap₂ ◌⊕◌ (two.2 ∙ ap₂ ◌⊕◌ x.2 y.2) z.2))
+    _ c.are_zero.ensures
