@@ -4,13 +4,13 @@
 // promised of what was read and written is proved from it (specs/Trace.antt).
 //
 // A call that is interrupted, or that would have to wait, is made again. A `Stream` tells whether a call failed for
-// another reason. A `Stream` that was handed to a function is used no more: the streams go on as the one that comes
-// back. Nothing is buffered: what a write took is out.
+// another reason, and why. A `Stream` that was handed to a function is used no more: the streams go on as the one that
+// comes back. Nothing is buffered: what a write took is out.
 #![tactic(auto)]
 
 ghost use Rattle.std.specs.Prelude.{◌≡◌, ◌<◌, ◌≤◌, true, length, take};
 ghost use Rattle.std.specs.Io.{ReadsAtMost, WritesAtMost};
-ghost use Rattle.stream.specs.Definition.{Opened, Still, Took, Gave, Marks, Reads, Lost, Writes, IsPrefixLen};
+ghost use Rattle.stream.specs.Definition.{Opened, Stands, Still, Took, Gave, Marks, Reads, Lost, Writes, IsPrefixLen};
 
 use std::io;
 use std::io::{ErrorKind, Read, Stdin, Stdout, Write};
@@ -31,6 +31,8 @@ pub struct Stream {
     unread: bool,
     // a write failed
     unwritten: bool,
+    // what the system said of the last call that failed
+    why: Option<io::Error>,
 }
 
 // What a call moved: the streams after it, and how many bytes at the start of the array.
@@ -50,6 +52,7 @@ pub fn open() -> Stream
         ended: false,
         unread: false,
         unwritten: false,
+        why: None,
     }
 }
 
@@ -67,6 +70,13 @@ pub fn is_unwritten(s: Stream) -> bool
     s.unwritten
 }
 
+// What the system said of the last call that failed, if one did.
+pub fn reason(s: Stream) -> Option<io::Error>
+    ensures { result ≡ s.why }
+{
+    s.why
+}
+
 // The bytes were read.
 fn took(s: Stream, bytes: &[u8]) -> Stream
     ensures { Took s bytes.now result }
@@ -78,6 +88,7 @@ fn took(s: Stream, bytes: &[u8]) -> Stream
         ended: s.ended,
         unread: s.unread,
         unwritten: s.unwritten,
+        why: s.why,
     }
 }
 
@@ -92,6 +103,7 @@ fn gave(s: Stream, bytes: &[u8]) -> Stream
         ended: s.ended,
         unread: s.unread,
         unwritten: s.unwritten,
+        why: s.why,
     }
 }
 
@@ -148,6 +160,24 @@ fn call_write(mut output: Stdout, buf: &[u8]) -> io::Result<usize>
     moved
 }
 
+// The streams with what the system said, if a call failed that gave the answer `moved`.
+fn told(s: Stream, moved: io::Result<usize>) -> Stream
+    ensures stands { Stands s result }
+    ensures still { Still s result }
+{
+    match moved {
+        Ok(_) => s,
+        Err(error) => Stream {
+            taken: s.taken,
+            given: s.given,
+            ended: s.ended,
+            unread: s.unread,
+            unwritten: s.unwritten,
+            why: Some(error),
+        },
+    }
+}
+
 // The streams after a read of `size` bytes, where one was wanted at least.
 fn after(s: Stream, size: usize, failed: bool) -> Stream
     ensures { Marks 1 s size result × Still s result }
@@ -162,6 +192,7 @@ fn after(s: Stream, size: usize, failed: bool) -> Stream
             ended: s.ended,
             unread: true,
             unwritten: s.unwritten,
+            why: s.why,
         };
     }
     Stream {
@@ -170,6 +201,7 @@ fn after(s: Stream, size: usize, failed: bool) -> Stream
         ended: true,
         unread: s.unread,
         unwritten: s.unwritten,
+        why: s.why,
     }
 }
 
@@ -183,6 +215,7 @@ fn lost(s: Stream) -> Stream
         ended: s.ended,
         unread: s.unread,
         unwritten: true,
+        why: s.why,
     }
 }
 
@@ -193,7 +226,7 @@ fn read(s: Stream, input: Stdin, buf: &mut [u8]) -> Moved
 {
     let moved = call_read(input, buf);
     let size = moved.unwrap_or(0);
-    let t = took(s, &buf[..size]);
+    let t = took(told(s, moved), &buf[..size]);
     Moved {
         stream: after(t, size, moved.is_err()),
         size: size,
@@ -208,7 +241,7 @@ fn write(s: Stream, output: Stdout, buf: &[u8]) -> Moved
     let moved = call_write(output, buf);
     let size = moved.unwrap_or(0);
     Moved {
-        stream: gave(s, &buf[..size]),
+        stream: gave(told(s, moved), &buf[..size]),
         size: size,
     }
 }
