@@ -234,6 +234,7 @@ fn read(s: Stream, input: Stdin, buf: &mut [u8]) -> Moved
 }
 
 // Writes some of the bytes, or none if the write fails.
+#[tactic(auto, using(crate::specs::Laws::told_gave))]
 fn write(s: Stream, output: Stdout, buf: &[u8]) -> Moved
     ensures gave { Gave s (take result.size buf.now) result.stream }
     ensures within { result.size ≤ length buf.now }
