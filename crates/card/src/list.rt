@@ -11,6 +11,7 @@ ghost use Rattle.card.specs.ListDefinition.{Lists, Reached};
 use crate::TABLE;
 use crate::section::Section;
 use listing::LINE;
+use std::io::{Stdin, Stdout};
 use stream::Stream;
 
 // What comes next, and the streams where it does.
@@ -26,18 +27,20 @@ fn blank_line() -> [u8; LINE] {
 }
 
 // Writes the first bytes of a line.
-fn put(x: Stream, line: &[u8; LINE], size: usize) -> Stream
+fn put(x: Stream, output: Stdout, line: &[u8; LINE], size: usize) -> Stream
     requires { size ≤ length line.now }
     ensures { Writes x (take size line.now) result }
 {
     let text: &[u8] = line;
-    stream::write_all(x, &text[..size])
+    stream::write_all(x, output, &text[..size])
 }
 
 // Reads the section that comes next, judges it and writes its line. Where a read or a write fails, all is over.
 fn step(
     s: Section,
     x: Stream,
+    input: Stdin,
+    output: Stdout,
     t: &mut [u64; TABLE],
     u: &mut [u64; TABLE],
     bytes: &mut [u8],
@@ -47,7 +50,7 @@ fn step(
     ensures falls { left result.next < left s }
     ensures kept { Kept result.next t.new u.new }
 {
-    let got = stream::fill(x, bytes);
+    let got = stream::fill(x, input, bytes);
     let y = got.stream;
     if stream::is_unread(y) {
         return Stepped {
@@ -58,7 +61,7 @@ fn step(
     let n = got.size;
     let mut line = blank_line();
     let r = crate::judge_kept(s, true, t, u, &bytes[..n], &mut line);
-    let z = put(y, &line, r.size);
+    let z = put(y, output, &line, r.size);
     if stream::is_unwritten(z) {
         return Stepped {
             next: Section::Over,
@@ -73,7 +76,7 @@ fn step(
 }
 
 // Reads a card to its end and writes its list, and hands back the streams: they tell whether a read or a write failed.
-pub fn print() -> Stream
+pub fn print(input: Stdin, output: Stdout) -> Stream
     ensures { Lists result }
 {
     let mut bytes = crate::block_line::blank();
@@ -83,7 +86,7 @@ pub fn print() -> Stream
     let mut s = Section::Size;
     while !crate::section::is_over(s) {
         let n = crate::section::size(s);
-        let r = step(s, x, &mut t, &mut u, &mut bytes[..n]);
+        let r = step(s, x, input, output, &mut t, &mut u, &mut bytes[..n]);
         let y = r.stream;
         let next = r.next;
         x = y;

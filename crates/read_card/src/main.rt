@@ -3,13 +3,24 @@
 // there, and standard error tells why.
 #![tactic(auto)]
 
-fn main() {
-    let x = card::list::print();
+use std::io;
+use stream::Stream;
+
+// Tells what failed, and why.
+fn fail(rt: HostRuntime, what: &str, x: Stream) -> io::Result<()> {
+    match stream::reason(x) {
+        Some(error) => eprintln!(rt; "{what}: {error}"),
+        None => eprintln!(rt; "{what}"),
+    }
+}
+
+fn main(rt: HostRuntime) -> io::Result<()> {
+    let x = card::list::print(rt.stdin(), rt.stdout());
     if stream::is_unread(x) {
-        os::fail(b"read_card: the card cannot be read");
-        return;
+        return fail(rt, "read_card: the card cannot be read", x);
     }
     if stream::is_unwritten(x) {
-        os::fail(b"read_card: the list cannot be written");
+        return fail(rt, "read_card: the list cannot be written", x);
     }
+    Ok(())
 }

@@ -10,7 +10,8 @@
 --   Reads k s y n r    .. and they are the first of y
 --   Lost s r           after s, a write failed
 --   Writes s l r       after s, l was written, or the start of it if a write failed
-use Rattle.std.specs.Prelude.{◌≡◌, ℕ, ◌<◌, ◌≤◌, true, false, List, [], ◌++◌, take}
+--   IsPrefixLen n l    l has at least n, and so its first n are n: the words of the library's own contracts
+use Rattle.std.specs.Prelude.{◌≡◌, ℕ, ◌<◌, ◌≤◌, true, false, List, [], ◌++◌, length, take}
 use Rattle.stream.specs.declared.Stream.{Stream}
 use Rattle.stream.specs.Trace.{Trace}
 
@@ -57,3 +58,6 @@ pub record Writes (s : Stream) (l : List ℕ) (r : Stream) : Type 0 where
   pub unread : r.unread ≡ s.unread
   pub whole : r.unwritten ≡ false → (c o : List ℕ) → Trace s c o → Trace r c (o ++ l)
   pub part : (n : ℕ) × ((c o : List ℕ) → Trace s c o → Trace r c (o ++ take n l))
+
+abbrev pub IsPrefixLen : ℕ → List ℕ → Type 0
+IsPrefixLen n l = (n ≤ length l) × (n ≡ length (take n l))

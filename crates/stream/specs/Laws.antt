@@ -1,9 +1,10 @@
 -- What the calls do to the streams.
 --
 -- Proved: a read of some bytes leaves the streams as they are (after-some), and one of none marks that a read failed
--- (after-failed) or that the input has ended (after-ended); a read is marked after its bytes are added (reads-one). An
--- array is filled read by read (took-none, fill_more), until nothing comes (fill_none) or it is full (fill-all), and a
--- text is written write by write (gave-none, write-more), until nothing is taken (write-none) or all is (write-whole).
+-- (after-failed) or that the input has ended (after-ended); a read is marked after its bytes are added (reads-one), and
+-- why a call failed may be told before they are (told_took, told_gave). An array is filled read by read (took-none,
+-- fill_more), until nothing comes (fill_none) or it is full (fill-all), and a text is written write by write (gave-none,
+-- write-more), until nothing is taken (write-none) or all is (write-whole).
 use Rattle.std.specs.Prelude.{◌≡◌, ℕ, ◌+◌, ◌-◌, ◌<◌, ◌≤◌, true, List, [], ◌++◌, length, take, drop, refl}
 use Rattle.std.proofs.Common.{sym, ap, ◌∙◌, subst, true≢false, append-nil, append_assoc, arith, length-drop, length-take-le, take_all, take-take, take-add, take_at}
 use Rattle.std.proofs.lemmas.List.{take-append-le}
@@ -14,6 +15,13 @@ use Rattle.stream.specs.Definition.{Stands, Still, Took, Gave, Marks, Reads, Los
 
 pub stands_self : (s : Stream) → Stands s s
 stands_self s = record { ended = refl; unread = refl; unwritten = refl }
+
+pub stands_then : {s t r : Stream} → Stands s t → Stands t r → Stands s r
+stands_then h g = record {
+  ended = g.ended ∙ h.ended;
+  unread = g.unread ∙ h.unread;
+  unwritten = g.unwritten ∙ h.unwritten;
+}
 
 module _ (s : Stream) (n : ℕ) where
   pub after-some : 0 < n → Marks 1 s n s × Still s s
@@ -51,14 +59,21 @@ module _ (s : Stream) (n : ℕ) where
     λ c o. trace-same s r c o t g,
   )
 
--- ---- reads
+-- why a call failed is told before its bytes are added
+module _ (s t r : Stream) (l : List ℕ) (h : Stands s t) (g : Still s t) where
+  pub told_took : Took t l r → Took s l r
+  told_took k = record {
+    stands = stands_then h k.stands;
+    trace = λ c o w. k.trace c o (g c o w);
+  }
 
-pub stands_then : {s t r : Stream} → Stands s t → Stands t r → Stands s r
-stands_then h g = record {
-  ended = g.ended ∙ h.ended;
-  unread = g.unread ∙ h.unread;
-  unwritten = g.unwritten ∙ h.unwritten;
-}
+  pub told_gave : Gave t l r → Gave s l r
+  told_gave k = record {
+    stands = stands_then h k.stands;
+    trace = λ c o w. k.trace c o (g c o w);
+  }
+
+-- ---- reads
 
 pub took-none : (s : Stream) → Took s [] s
 took-none s = record {

@@ -15,6 +15,7 @@ use binary::direct::{Solved, TERMS};
 use field::Gf;
 use kernel::index;
 use listing::text::put;
+use std::io::{Stdin, Stdout};
 use test_support::{input, output, print};
 
 fn word(line: &mut [u8], at: usize, subword: &[u8], out: &mut [u8]) -> usize {
@@ -25,10 +26,10 @@ fn word(line: &mut [u8], at: usize, subword: &[u8], out: &mut [u8]) -> usize {
     print::numbers(line, end, out)
 }
 
-fn word_case(line: &mut [u8]) -> usize {
-    let n = input::number();
-    let space = input::bytes(n);
-    let size = input::number();
+fn word_case(stdin: Stdin, line: &mut [u8]) -> usize {
+    let n = input::number(stdin);
+    let space = input::bytes(stdin, n);
+    let size = input::number(stdin);
     let mut end = put(line, 0, b"word");
     end = print::number(line, end, n);
     end = print::number(line, end, size);
@@ -68,10 +69,10 @@ fn state(line: &mut [u8], at: usize, s: Solved) -> usize {
     print::number(line, end, index(s.auxiliary_length))
 }
 
-fn solve_case(line: &mut [u8]) -> usize {
-    let a = input::byte();
-    let b = input::byte();
-    let c = input::byte();
+fn solve_case(stdin: Stdin, line: &mut [u8]) -> usize {
+    let a = input::byte(stdin);
+    let b = input::byte(stdin);
+    let c = input::byte(stdin);
     let mut end = put(line, 0, b"solve");
     end = print::number(line, end, a);
     end = print::number(line, end, b);
@@ -83,27 +84,29 @@ fn solve_case(line: &mut [u8]) -> usize {
     )
 }
 
-fn case() {
-    let mut line = io::buffer();
-    if input::byte() == 0 {
-        let end = word_case(&mut line);
-        finish(&mut line, end);
+fn case(stdin: Stdin, stdout: Stdout) {
+    let mut line = input::buffer();
+    if input::byte(stdin) == 0 {
+        let end = word_case(stdin, &mut line);
+        finish(stdout, &mut line, end);
         return;
     }
-    let end = solve_case(&mut line);
-    finish(&mut line, end);
+    let end = solve_case(stdin, &mut line);
+    finish(stdout, &mut line, end);
 }
 
-fn finish(line: &mut [u8], at: usize) {
+fn finish(stdout: Stdout, line: &mut [u8], at: usize) {
     let end = put(line, at, b"\n");
-    output::write(line, end);
+    output::write(stdout, line, end);
 }
 
-fn main() {
-    let cases = input::number();
+fn main(rt: HostRuntime) {
+    let stdin = rt.stdin();
+    let stdout = rt.stdout();
+    let cases = input::number(stdin);
     let mut i: usize = 0;
     while i < cases {
-        case();
+        case(stdin, stdout);
         i = i + 1;
     }
 }

@@ -13,6 +13,7 @@ ghost use Rattle.card.specs.SectionDefinition.{over, left};
 use card::section::Section;
 use listing::LINE;
 use listing::text::put;
+use std::io::{Stdin, Stdout};
 use test_support::{input, output, print};
 
 fn blank() -> [u8; LINE] {
@@ -32,47 +33,49 @@ fn end(at: usize, n: usize, size: usize) -> usize
 }
 
 // Prints the line of a section, and tells what comes next.
-fn step(s: Section, bytes: &[u8]) -> Section
+fn step(stdout: Stdout, s: Section, bytes: &[u8]) -> Section
     ensures { over s ≡ false → left result < left s }
 {
     let mut line = blank();
     let t = card::judge(s, bytes, &mut line);
-    io::write_all(1, &line[..t.size]);
+    output::write(stdout, &line, t.size);
     let next = t.next;
     next
 }
 
-fn list(card: &[u8]) {
+fn list(stdout: Stdout, card: &[u8]) {
     let mut s = Section::Size;
     let mut at: usize = 0;
     while !card::section::is_over(s) {
         let e = end(at, card::section::wanted(s), card.len());
-        let next = step(s, &card[at..e]);
+        let next = step(stdout, s, &card[at..e]);
         s = next;
         at = e;
     }
 }
 
-fn title(n: usize) {
+fn title(stdout: Stdout, n: usize) {
     let mut line = blank();
     let mut at = put(&mut line, 0, b"card of");
     at = print::number(&mut line, at, n);
     at = put(&mut line, at, b"\n");
-    output::write(&line, at);
+    output::write(stdout, &line, at);
 }
 
-fn one() {
-    let n = input::number();
-    let space = input::bytes(n);
-    title(n);
-    list(&space[..n]);
+fn one(stdin: Stdin, stdout: Stdout) {
+    let n = input::number(stdin);
+    let space = input::bytes(stdin, n);
+    title(stdout, n);
+    list(stdout, &space[..n]);
 }
 
-fn main() {
-    let count = input::number();
+fn main(rt: HostRuntime) {
+    let stdin = rt.stdin();
+    let stdout = rt.stdout();
+    let count = input::number(stdin);
     let mut i: usize = 0;
     while i < count {
-        one();
+        one(stdin, stdout);
         i = i + 1;
     }
 }

@@ -17,6 +17,7 @@
 use listing::text::put;
 use profile::{Answer, Parsed};
 use solver::Form;
+use std::io::{Stdin, Stdout};
 use test_support::{input, output, print};
 
 fn answer(line: &mut [u8], at: usize, a: Answer) -> usize {
@@ -42,10 +43,10 @@ fn write(line: &mut [u8], at: usize, profile: &[u8], data: &[u8], out: &mut [u8]
     print::numbers(line, end, out)
 }
 
-fn write_case(line: &mut [u8], at: usize, profile: &[u8]) -> usize {
-    let n = input::number();
-    let space = input::bytes(n);
-    let size = input::number();
+fn write_case(stdin: Stdin, line: &mut [u8], at: usize, profile: &[u8]) -> usize {
+    let n = input::number(stdin);
+    let space = input::bytes(stdin, n);
+    let size = input::number(stdin);
     let mut end = print::number(line, at, n);
     end = print::number(line, end, size);
     let mut out = output::bytes(size);
@@ -57,10 +58,10 @@ fn fetch(line: &mut [u8], at: usize, profile: &[u8], block: &[u8], i: usize) -> 
     print::numbers(line, end, profile::fetch::part(profile, block, i))
 }
 
-fn fetch_case(line: &mut [u8], at: usize, profile: &[u8]) -> usize {
-    let n = input::number();
-    let space = input::bytes(n);
-    let i = input::number();
+fn fetch_case(stdin: Stdin, line: &mut [u8], at: usize, profile: &[u8]) -> usize {
+    let n = input::number(stdin);
+    let space = input::bytes(stdin, n);
+    let i = input::number(stdin);
     let mut end = print::number(line, at, n);
     end = print::number(line, end, i);
     fetch(line, end, profile, &space[..n], i)
@@ -73,10 +74,10 @@ fn extract(line: &mut [u8], at: usize, profile: &[u8], block: &[u8], out: &mut [
     print::numbers(line, end, out)
 }
 
-fn data_case(line: &mut [u8], at: usize, profile: &[u8]) -> usize {
-    let n = input::number();
-    let space = input::bytes(n);
-    let size = input::number();
+fn data_case(stdin: Stdin, line: &mut [u8], at: usize, profile: &[u8]) -> usize {
+    let n = input::number(stdin);
+    let space = input::bytes(stdin, n);
+    let size = input::number(stdin);
     let mut end = print::number(line, at, n);
     end = print::number(line, end, size);
     let mut out = output::bytes(size);
@@ -89,42 +90,44 @@ fn head(line: &mut [u8], name: &[u8], profile: &[u8]) -> usize {
     put(line, at, b" |")
 }
 
-fn case(line: &mut [u8], kind: usize, profile: &[u8]) -> usize {
+fn case(stdin: Stdin, line: &mut [u8], kind: usize, profile: &[u8]) -> usize {
     if kind == 0 {
         let at = head(line, b"profile", profile);
         return profile_case(line, at, profile);
     }
     if kind == 1 {
         let at = head(line, b"write", profile);
-        return write_case(line, at, profile);
+        return write_case(stdin, line, at, profile);
     }
     if kind == 2 {
         let at = head(line, b"fetch", profile);
-        return fetch_case(line, at, profile);
+        return fetch_case(stdin, line, at, profile);
     }
     let at = head(line, b"data", profile);
-    data_case(line, at, profile)
+    data_case(stdin, line, at, profile)
 }
 
-fn write_line(line: &mut [u8], kind: usize, profile: &[u8]) {
-    let mut at = case(line, kind, profile);
+fn write_line(stdin: Stdin, stdout: Stdout, line: &mut [u8], kind: usize, profile: &[u8]) {
+    let mut at = case(stdin, line, kind, profile);
     at = put(line, at, b"\n");
-    output::write(line, at);
+    output::write(stdout, line, at);
 }
 
-fn one() {
-    let kind = input::byte();
-    let n = input::byte();
-    let space = input::bytes(n);
-    let mut line = io::large_buffer();
-    write_line(&mut line, kind, &space[..n]);
+fn one(stdin: Stdin, stdout: Stdout) {
+    let kind = input::byte(stdin);
+    let n = input::byte(stdin);
+    let space = input::bytes(stdin, n);
+    let mut line = input::large_buffer();
+    write_line(stdin, stdout, &mut line, kind, &space[..n]);
 }
 
-fn main() {
-    let count = input::number();
+fn main(rt: HostRuntime) {
+    let stdin = rt.stdin();
+    let stdout = rt.stdout();
+    let count = input::number(stdin);
     let mut i: usize = 0;
     while i < count {
-        one();
+        one(stdin, stdout);
         i = i + 1;
     }
 }

@@ -23,6 +23,7 @@ use listing::text::{digits, put};
 use profile::{Answer, Parsed, Profile, Refusal};
 use solver::{Form, Solver};
 use stages::report::{Line, Report, Verdict};
+use std::io::{Stdin, Stdout};
 use test_support::{input, output, print, state};
 
 // Whether an output is as it was before.
@@ -52,10 +53,10 @@ fn trace(line: &mut [u8], at: usize, kept: bool) -> usize {
     put(line, at, b" | lost\n")
 }
 
-fn refused(line: &mut [u8], q: Refusal, out: &[u8]) {
+fn refused(stdout: Stdout, line: &mut [u8], q: Refusal, out: &[u8]) {
     let end = number(line, 0, q);
     let all = trace(line, end, kept(out));
-    output::write(line, all);
+    output::write(stdout, line, all);
 }
 
 // How many of the eight lines are a subword's.
@@ -108,28 +109,28 @@ fn whole(line: &mut [u8], at: usize, r: usize, s: Solver) -> usize {
 }
 
 // The state of subword i, corrected at stage r: its solver went through all syndromes of that stage.
-fn last_state(line: &mut [u8], p: Profile, i: usize, r: u8, l: Line) {
+fn last_state(stdout: Stdout, line: &mut [u8], p: Profile, i: usize, r: u8, l: Line) {
     let s = l.solver;
     let mut at = put(line, 0, b"state");
     at = print::number(line, at, i);
     at = whole(line, at, 2 * p.capability(r) as usize, s);
     at = put(line, at, b"\n");
-    output::write(line, at);
+    output::write(stdout, line, at);
 }
 
-fn state_of(line: &mut [u8], p: Profile, i: usize, l: Line) {
+fn state_of(stdout: Stdout, line: &mut [u8], p: Profile, i: usize, l: Line) {
     let v = l.verdict;
     if let Verdict::Corrected(_, r) = v {
-        last_state(line, p, i, r, l);
+        last_state(stdout, line, p, i, r, l);
     }
 }
 
 // A line for each corrected subword.
-fn state_lines(line: &mut [u8], p: Profile, all: [Line; 8]) {
+fn state_lines(stdout: Stdout, line: &mut [u8], p: Profile, all: [Line; 8]) {
     let m = subwords(p);
     let mut i: usize = 0;
     while i < m {
-        state_of(line, p, i, all[i]);
+        state_of(stdout, line, p, i, all[i]);
         i = i + 1;
     }
 }
@@ -143,83 +144,117 @@ fn counts(line: &mut [u8], last: u8, changed: u16, bits: u16) -> usize {
     put(line, at, b" |")
 }
 
-fn show(line: &mut [u8], p: Profile, block: &[u8], out: &[u8], r: Report, states: bool) {
+fn show(
+    stdout: Stdout,
+    line: &mut [u8],
+    p: Profile,
+    block: &[u8],
+    out: &[u8],
+    r: Report,
+    states: bool,
+) {
     let all = r.lines;
     let mut at = counts(line, r.last, r.changed, r.bits);
     at = verdicts(line, at, p, all);
     at = put(line, at, b" |");
     at = print::changes(line, at, block, out);
     at = put(line, at, b"\n");
-    output::write(line, at);
+    output::write(stdout, line, at);
     if states {
-        state_lines(line, p, all);
+        state_lines(stdout, line, p, all);
     }
 }
 
-fn accepted(line: &mut [u8], profile: &[u8], block: &[u8], out: &[u8], r: Report, states: bool) {
+fn accepted(
+    stdout: Stdout,
+    line: &mut [u8],
+    profile: &[u8],
+    block: &[u8],
+    out: &[u8],
+    r: Report,
+    states: bool,
+) {
     match profile::questions::parse(profile) {
-        Parsed::Accepted(p) => show(line, p, block, out, r, states),
+        Parsed::Accepted(p) => show(stdout, line, p, block, out, r, states),
         Parsed::Refused(_) => {
             let end = put(line, 0, b" accepted with a refused profile\n");
-            output::write(line, end);
+            output::write(stdout, line, end);
         }
     }
 }
 
-fn read(line: &mut [u8], form: Form, profile: &[u8], block: &[u8], out: &mut [u8], states: bool) {
+fn read(
+    stdout: Stdout,
+    line: &mut [u8],
+    form: Form,
+    profile: &[u8],
+    block: &[u8],
+    out: &mut [u8],
+    states: bool,
+) {
     let r = decoder::decode(profile, block, out, form);
     let a = r.answer;
     let report = r.report;
     match a {
-        Answer::Accepted => accepted(line, profile, block, out, report, states),
-        Answer::Refused(q) => refused(line, q, out),
+        Answer::Accepted => accepted(stdout, line, profile, block, out, report, states),
+        Answer::Refused(q) => refused(stdout, line, q, out),
     }
 }
 
-fn in_form(line: &mut [u8], form: Form, profile: &[u8], block: &[u8], size: usize, states: bool)
+fn in_form(
+    stdout: Stdout,
+    line: &mut [u8],
+    form: Form,
+    profile: &[u8],
+    block: &[u8],
+    size: usize,
+    states: bool,
+)
     requires { size ≤ 65536 }
 {
     let end = state::name(line, 0, form);
-    output::write(line, end);
+    output::write(stdout, line, end);
     let mut out = output::bytes(size);
-    read(line, form, profile, block, &mut out[..size], states);
+    read(stdout, line, form, profile, block, &mut out[..size], states);
 }
 
-fn title(line: &mut [u8], profile: &[u8], n: usize, size: usize) {
+fn title(stdout: Stdout, line: &mut [u8], profile: &[u8], n: usize, size: usize) {
     let mut at = put(line, 0, b"case");
     at = print::numbers(line, at, profile);
     at = put(line, at, b" |");
     at = print::number(line, at, n);
     at = print::number(line, at, size);
     at = put(line, at, b"\n");
-    output::write(line, at);
+    output::write(stdout, line, at);
 }
 
-fn in_each(line: &mut [u8], profile: &[u8], block: &[u8], size: usize, states: bool)
+fn in_each(stdout: Stdout, line: &mut [u8], profile: &[u8], block: &[u8], size: usize, states: bool)
     requires { size ≤ 65536 }
 {
-    title(line, profile, block.len(), size);
-    in_form(line, Form::Plain, profile, block, size, states);
-    in_form(line, Form::Lookahead, profile, block, size, states);
-    in_form(line, Form::Scaled, profile, block, size, states);
+    title(stdout, line, profile, block.len(), size);
+    in_form(stdout, line, Form::Plain, profile, block, size, states);
+    in_form(stdout, line, Form::Lookahead, profile, block, size, states);
+    in_form(stdout, line, Form::Scaled, profile, block, size, states);
 }
 
-fn one() {
-    let states = input::byte() == 1;
-    let k = input::byte();
-    let profile = input::bytes(k);
-    let n = input::number();
-    let block = input::bytes(n);
-    let size = input::number();
-    let mut line = io::buffer();
-    in_each(&mut line, &profile[..k], &block[..n], size, states);
+fn one(stdin: Stdin, stdout: Stdout) {
+    let states = input::byte(stdin) == 1;
+    let k = input::byte(stdin);
+    let profile = input::bytes(stdin, k);
+    let n = input::number(stdin);
+    let block = input::bytes(stdin, n);
+    let size = input::number(stdin);
+    let mut line = input::buffer();
+    in_each(stdout, &mut line, &profile[..k], &block[..n], size, states);
 }
 
-fn main() {
-    let count = input::number();
+fn main(rt: HostRuntime) {
+    let stdin = rt.stdin();
+    let stdout = rt.stdout();
+    let count = input::number(stdin);
     let mut i: usize = 0;
     while i < count {
-        one();
+        one(stdin, stdout);
         i = i + 1;
     }
 }

@@ -7,6 +7,7 @@
 use field::{Exponent, Gf};
 use kernel::halves;
 use kernel::halves::Halves;
+use std::io;
 
 // The first lines of the products: by logarithms, by half bytes, by tables that are lent. Then the end.
 const BY_LOGARITHMS: usize = 4;
@@ -108,9 +109,8 @@ fn cell(line: usize, i: usize) -> u8 {
     r.0
 }
 
-fn print(n: u8, after: &[u8]) {
-    io::print_decimal(1, n as u64);
-    io::write_all(1, after);
+fn print(rt: HostRuntime, n: u8, after: &str) -> io::Result<()> {
+    print!(rt; "{n}{after}")
 }
 
 // The last index of a line.
@@ -121,20 +121,21 @@ fn end(line: usize) -> usize {
     if line == 2 || line == 3 { 254 } else { 255 }
 }
 
-fn print_line(line: usize) {
+fn print_line(rt: HostRuntime, line: usize) -> io::Result<()> {
     let last = end(line);
     let mut i: usize = 0;
     while i < last {
-        print(cell(line, i), b" ");
+        print(rt, cell(line, i), " ")?;
         i = i + 1;
     }
-    print(cell(line, last), b"\n");
+    print(rt, cell(line, last), "\n")
 }
 
-fn main() {
+fn main(rt: HostRuntime) -> io::Result<()> {
     let mut line: usize = 0;
     while line < LINES {
-        print_line(line);
+        print_line(rt, line)?;
         line = line + 1;
     }
+    Ok(())
 }

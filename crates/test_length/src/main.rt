@@ -7,10 +7,18 @@
 
 use listing::text::put;
 use solver::Form;
+use std::io::{Stdin, Stdout};
 use test_support::{input, output, print, state};
 
 // One list of rounds in one form, at so many points: before its first event, and after each.
-fn one(line: &mut [u8], form: Form, syndromes: &[u8], lengths: &[u8], points: usize) {
+fn one(
+    stdout: Stdout,
+    line: &mut [u8],
+    form: Form,
+    syndromes: &[u8],
+    lengths: &[u8],
+    points: usize,
+) {
     let mut at = state::name(line, 0, form);
     let mut e: usize = 0;
     while e < points {
@@ -19,29 +27,38 @@ fn one(line: &mut [u8], form: Form, syndromes: &[u8], lengths: &[u8], points: us
         e = e + 1;
     }
     at = put(line, at, b"\n");
-    output::write(line, at);
+    output::write(stdout, line, at);
 }
 
 // The next list of rounds, in each form.
-fn list() {
-    let mut line = io::buffer();
-    let rounds = input::byte();
-    let total = input::byte();
-    let space = input::bytes(rounds);
+fn list(stdin: Stdin, stdout: Stdout) {
+    let mut line = input::buffer();
+    let rounds = input::byte(stdin);
+    let total = input::byte(stdin);
+    let space = input::bytes(stdin, rounds);
     let lengths = &space[..rounds];
-    let more = input::bytes(total);
+    let more = input::bytes(stdin, total);
     let syndromes = &more[..total];
     let points = rounds + total + 1;
-    one(&mut line, Form::Plain, syndromes, lengths, points);
-    one(&mut line, Form::Lookahead, syndromes, lengths, points);
-    one(&mut line, Form::Scaled, syndromes, lengths, points);
+    one(stdout, &mut line, Form::Plain, syndromes, lengths, points);
+    one(
+        stdout,
+        &mut line,
+        Form::Lookahead,
+        syndromes,
+        lengths,
+        points,
+    );
+    one(stdout, &mut line, Form::Scaled, syndromes, lengths, points);
 }
 
-fn main() {
-    let lists = input::number();
+fn main(rt: HostRuntime) {
+    let stdin = rt.stdin();
+    let stdout = rt.stdout();
+    let lists = input::number(stdin);
     let mut i: usize = 0;
     while i < lists {
-        list();
+        list(stdin, stdout);
         i = i + 1;
     }
 }

@@ -16,6 +16,7 @@ use listing::text::put;
 use profile::POSITIONS;
 use settle::Settled;
 use solver::Form;
+use std::io::Stdout;
 use test_support::{input, output, print, state};
 
 // The syndromes are one round: its entry and an iteration for each.
@@ -63,17 +64,17 @@ fn outcome(line: &mut [u8], at: usize, found: bool) -> usize {
 }
 
 // Ends a line with what came out.
-fn show(line: &mut [u8], at: usize, r: Settled) {
+fn show(stdout: Stdout, line: &mut [u8], at: usize, r: Settled) {
     let pattern = r.pattern;
     let mut end = outcome(line, at, r.found);
     end = print::number(line, end, r.count as usize);
     end = put(line, end, b" |");
     end = changes(line, end, pattern);
     end = put(line, end, b"\n");
-    output::write(line, end);
+    output::write(stdout, line, end);
 }
 
-fn one(line: &mut [u8], form: Form, syndromes: &[u8], n: usize, t: usize, first: u8)
+fn one(stdout: Stdout, line: &mut [u8], form: Form, syndromes: &[u8], n: usize, t: usize, first: u8)
     requires { (length syndromes.now ≤ 48) × (n ≤ 255) × (t ≤ 24) }
 {
     let mut at = state::name(line, 0, form);
@@ -81,11 +82,11 @@ fn one(line: &mut [u8], form: Form, syndromes: &[u8], n: usize, t: usize, first:
     at = print::number(line, at, t);
     at = print::number(line, at, n);
     at = print::number(line, at, index(first));
-    show(line, at, settle(form, syndromes, n, t, first));
+    show(stdout, line, at, settle(form, syndromes, n, t, first));
 }
 
 // The case at a place, in each form, and where the next one is: the end, where the case is not whole.
-fn next(line: &mut [u8], input: &[u8], at: usize) -> usize
+fn next(stdout: Stdout, line: &mut [u8], input: &[u8], at: usize) -> usize
     requires { at < length input.now }
     ensures { at < result }
 {
@@ -105,23 +106,23 @@ fn next(line: &mut [u8], input: &[u8], at: usize) -> usize
         return end;
     }
     let syndromes = &input[a..b];
-    one(line, Form::Plain, syndromes, n, t, first);
-    one(line, Form::Lookahead, syndromes, n, t, first);
-    one(line, Form::Scaled, syndromes, n, t, first);
+    one(stdout, line, Form::Plain, syndromes, n, t, first);
+    one(stdout, line, Form::Lookahead, syndromes, n, t, first);
+    one(stdout, line, Form::Scaled, syndromes, n, t, first);
     b
 }
 
 // The cases of the input, one after the other.
-fn all(line: &mut [u8], input: &[u8]) {
+fn all(stdout: Stdout, line: &mut [u8], input: &[u8]) {
     let mut at: usize = 0;
     while at < input.len() {
-        at = next(line, input, at);
+        at = next(stdout, line, input, at);
     }
 }
 
-fn main() {
-    let mut space = io::large_buffer();
-    let mut line = io::buffer();
-    let n = io::read_full(0, &mut space);
-    all(&mut line, &space[..n]);
+fn main(rt: HostRuntime) {
+    let mut space = input::large_buffer();
+    let mut line = input::buffer();
+    let n = input::fill(rt.stdin(), &mut space);
+    all(rt.stdout(), &mut line, &space[..n]);
 }

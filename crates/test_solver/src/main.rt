@@ -17,7 +17,8 @@ use solver::plain::Plain;
 use solver::rounds::Progress;
 use solver::scaled::Scaled;
 use solver::{Form, Solver};
-use test_support::{output, print, state};
+use std::io::Stdout;
+use test_support::{input, output, print, state};
 
 // The number h with one more value: it depends on all values, in their order.
 fn mix(h: u64, x: u8) -> u64 {
@@ -150,7 +151,7 @@ fn head(line: &mut [u8], run: Progress) -> usize {
 }
 
 // Where a run ends, and the number of all that it was in.
-fn show(line: &mut [u8], run: Progress, h: u64) {
+fn show(stdout: Stdout, line: &mut [u8], run: Progress, h: u64) {
     let s = run.solver;
     let mut at = head(line, run);
     at = state::polynomials(line, at, s);
@@ -158,11 +159,18 @@ fn show(line: &mut [u8], run: Progress, h: u64) {
     at = put(line, at, b" |");
     at = print::number(line, at, h as usize);
     at = put(line, at, b"\n");
-    output::write(line, at);
+    output::write(stdout, line, at);
 }
 
 // One list of rounds in one form, stopped after 0, 1, .. of its events.
-fn one(line: &mut [u8], form: Form, syndromes: &[u8], lengths: &[u8], events: usize) {
+fn one(
+    stdout: Stdout,
+    line: &mut [u8],
+    form: Form,
+    syndromes: &[u8],
+    lengths: &[u8],
+    events: usize,
+) {
     let mut h: u64 = 0;
     let mut e: usize = 0;
     while e < events {
@@ -170,11 +178,11 @@ fn one(line: &mut [u8], form: Form, syndromes: &[u8], lengths: &[u8], events: us
         e = e + 1;
     }
     let end = solver::rounds::run(form, syndromes, lengths, events);
-    show(line, end, note(h, end));
+    show(stdout, line, end, note(h, end));
 }
 
 // The list of rounds at a place, in each form, and where the next one is: the end, where the list is not whole.
-fn next(line: &mut [u8], input: &[u8], at: usize) -> usize
+fn next(stdout: Stdout, line: &mut [u8], input: &[u8], at: usize) -> usize
     requires { at < length input.now }
     ensures { at < result }
 {
@@ -192,23 +200,44 @@ fn next(line: &mut [u8], input: &[u8], at: usize) -> usize
     }
     let lengths = &input[a..b];
     let syndromes = &input[b..c];
-    one(line, Form::Plain, syndromes, lengths, rounds + total);
-    one(line, Form::Lookahead, syndromes, lengths, rounds + total);
-    one(line, Form::Scaled, syndromes, lengths, rounds + total);
+    one(
+        stdout,
+        line,
+        Form::Plain,
+        syndromes,
+        lengths,
+        rounds + total,
+    );
+    one(
+        stdout,
+        line,
+        Form::Lookahead,
+        syndromes,
+        lengths,
+        rounds + total,
+    );
+    one(
+        stdout,
+        line,
+        Form::Scaled,
+        syndromes,
+        lengths,
+        rounds + total,
+    );
     c
 }
 
 // The lists of the input, one after the other.
-fn all(line: &mut [u8], input: &[u8]) {
+fn all(stdout: Stdout, line: &mut [u8], input: &[u8]) {
     let mut at: usize = 0;
     while at < input.len() {
-        at = next(line, input, at);
+        at = next(stdout, line, input, at);
     }
 }
 
-fn main() {
-    let mut space = io::large_buffer();
-    let mut line = io::buffer();
-    let n = io::read_full(0, &mut space);
-    all(&mut line, &space[..n]);
+fn main(rt: HostRuntime) {
+    let mut space = input::large_buffer();
+    let mut line = input::buffer();
+    let n = input::fill(rt.stdin(), &mut space);
+    all(rt.stdout(), &mut line, &space[..n]);
 }

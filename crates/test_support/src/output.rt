@@ -1,8 +1,9 @@
 // Outputs that show what is written to them, and the one function that writes a text to standard output.
 ghost use Rattle.std.specs.Prelude.{◌≤◌, ◌≡◌, length, take};
-ghost use Rattle.io.specs.Counts.{IsPrefixLen};
+ghost use Rattle.stream.specs.Definition.{IsPrefixLen};
 
 use listing::text::within;
+use std::io::Stdout;
 
 // What every byte of an output holds before anything is written to it.
 pub const BEFORE: u8 = 170;
@@ -22,10 +23,10 @@ pub fn bytes(n: usize) -> [u8; 65536]
 }
 
 // Writes the first n bytes of an array to standard output, or all that it has, and answers how many these are.
-pub fn write(text: &[u8], n: usize) -> usize
+pub fn write(stdout: Stdout, text: &[u8], n: usize) -> usize
     ensures { result ≡ length (take n text.now) }
 {
     let size = within(text, n);
-    io::write_all(1, &text[..size]);
+    stream::write_all(stream::open(), stdout, &text[..size]);
     size
 }

@@ -17,6 +17,7 @@ use kernel::index;
 use listing::text::put;
 use polynomial::SYNDROMES;
 use solver::{Form, Solver};
+use std::io::{Stdin, Stdout};
 use test_support::{input, output, print, state};
 
 // How far a run goes, the syndromes that are known then, and the number of iterations that is told.
@@ -40,6 +41,7 @@ fn values(line: &mut [u8], at: usize, first: u8, s: Solver, run: Run, p: u8) -> 
 
 // The values at each position, from the state after so many events of the run in one form.
 fn one(
+    stdout: Stdout,
     line: &mut [u8],
     form: Form,
     first: u8,
@@ -61,22 +63,22 @@ fn one(
         i = i + 1;
     }
     at = put(line, at, b"\n");
-    output::write(line, at);
+    output::write(stdout, line, at);
 }
 
 // The next case, in each form.
-fn case() {
-    let mut line = io::buffer();
-    let first = input::byte() as u8;
-    let rounds = input::byte();
-    let total = input::byte();
-    let events = input::byte();
-    let known = input::byte();
-    let k = input::byte() as u8;
-    let count = input::byte();
-    let a = input::bytes(rounds);
-    let b = input::bytes(total);
-    let c = input::bytes(count);
+fn case(stdin: Stdin, stdout: Stdout) {
+    let mut line = input::buffer();
+    let first = input::byte(stdin) as u8;
+    let rounds = input::byte(stdin);
+    let total = input::byte(stdin);
+    let events = input::byte(stdin);
+    let known = input::byte(stdin);
+    let k = input::byte(stdin) as u8;
+    let count = input::byte(stdin);
+    let a = input::bytes(stdin, rounds);
+    let b = input::bytes(stdin, total);
+    let c = input::bytes(stdin, count);
     let run = Run {
         events: events,
         known: input::row(&b[..known]),
@@ -86,6 +88,7 @@ fn case() {
     let syndromes = &b[..total];
     let positions = &c[..count];
     one(
+        stdout,
         &mut line,
         Form::Plain,
         first,
@@ -95,6 +98,7 @@ fn case() {
         positions,
     );
     one(
+        stdout,
         &mut line,
         Form::Lookahead,
         first,
@@ -104,6 +108,7 @@ fn case() {
         positions,
     );
     one(
+        stdout,
         &mut line,
         Form::Scaled,
         first,
@@ -114,11 +119,13 @@ fn case() {
     );
 }
 
-fn main() {
-    let cases = input::number();
+fn main(rt: HostRuntime) {
+    let stdin = rt.stdin();
+    let stdout = rt.stdout();
+    let cases = input::number(stdin);
     let mut i: usize = 0;
     while i < cases {
-        case();
+        case(stdin, stdout);
         i = i + 1;
     }
 }

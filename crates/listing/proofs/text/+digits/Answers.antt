@@ -1,20 +1,7 @@
 -- What stands before the last digit is a tenth of the digits, which falls.
-use Rattle.std.proofs.Common.{arith, ℕ, ◌<◌, ◌∙◌}
+use Rattle.std.proofs.Common.{arith, ◌∙◌}
 use Rattle.listing.specs.Laws.{last_digit, tenth-less, appended-low, appended-high}
-use Rattle.listing.proofs.text.digits.Reads as digits
-use Rattle.listing.proofs.text.digits.Kinds as digits-kinds
-use Rattle.listing.proofs.text.+digits.Lts-digits as digits-lts
-use Rattle.listing.proofs.text.byte.Reads as byte-Reads
 use Rattle.listing.proofs.text.+digits.Goals as goal
-
-abbrev μ-digits : Measures 1 digits-kinds.ps ℕ
-μ-digits κs a = a.1.1.0
-
-abbrev digits-at : ℕ → In 1 digits-kinds.ps
-digits-at t = and 1 digits-kinds.ps (is 1 digits-kinds.ps μ-digits t) digits.Pre
-
-abbrev digits-below : ℕ → In 1 digits-kinds.ps
-digits-below t = and 1 digits-kinds.ps (falls 1 digits-kinds.ps ◌<◌ μ-digits t) digits.Pre
 
 pub shape_of-to-then-n-lt10 : goal.shape_of-to-then-n-lt10
 shape_of-to-then-n-lt10 t c = c.byte.ensures.long
@@ -23,7 +10,7 @@ pub returns-then-n-lt10 : goal.returns-then-n-lt10
 returns-then-n-lt10 t c = appended-low c.if-n-lt10.true c.byte.ensures
 
 pub digits-end-requires : goal.digits-end-requires
-digits-end-requires t c = (omega (arith, c.requires.0, tenth-less c.args.n (omega (arith, c.if-n-lt10.false))), tt)
+digits-end-requires t c = (omega (arith, c.decreases, tenth-less c.args.n (omega (arith, c.if-n-lt10.false))), tt)
 
 pub overflow_cast-n-2 : goal.overflow_cast-n-2
 overflow_cast-n-2 t c = omega (arith, last_digit c.args.n)

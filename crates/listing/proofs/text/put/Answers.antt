@@ -1,4 +1,4 @@
-use Rattle.std.proofs.Common.{arith, take_all, ◌-◌}
+use Rattle.std.proofs.Common.{arith, take_all}
 use Rattle.listing.specs.Laws.{appended-none, appended-more}
 use Rattle.listing.proofs.text.put.Goals as goal
 

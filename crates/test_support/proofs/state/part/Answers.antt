@@ -1,0 +1,10 @@
+-- Two polynomials, a bar and the scalars.
+use Rattle.listing.specs.Laws.{appended_then}
+use Rattle.test_support.specs.State.{part_text}
+use Rattle.test_support.proofs.state.part.Goals as goal
+
+pub returns : goal.returns
+unfolding part_text
+returns c =
+    let two = appended_then c.polynomial-end.ensures c.polynomial-end-2.ensures in
+    appended_then (appended_then two c.put-end.ensures) c.numbers.ensures
