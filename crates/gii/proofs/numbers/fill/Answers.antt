@@ -1,4 +1,4 @@
-use Rattle.std.proofs.Common.{ap, arith, get_or, length, refl, set, ◌-◌, ◌<◌, ◌∙◌}
+use Rattle.std.proofs.Common.{ap, arith, get_or, length, refl, set, ◌<◌, ◌∙◌}
 use Rattle.gii.specs.NumbersLaws.{filled_more, filled-length, filled-all, filled-up}
 use Rattle.gii.proofs.numbers.fill.Goals as goal
 

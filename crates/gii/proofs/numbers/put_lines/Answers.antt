@@ -1,4 +1,4 @@
-use Rattle.std.proofs.Common.{arith, refl, rules, take, ◌-◌}
+use Rattle.std.proofs.Common.{arith, refl, rules, take}
 use Rattle.stages.specs.Report.{says}
 use Rattle.gii.specs.NumbersLaws.{lines_none, lines_more, lines-all}
 use Rattle.gii.proofs.numbers.put_lines.Goals as goal
