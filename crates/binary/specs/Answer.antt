@@ -13,7 +13,8 @@ use Rattle.std.proofs.Common.{ap, ap₂, ◌∙◌, inl, inr, ⊎_elim, arith}
 use Rattle.std.proofs.Math.Logic.{by_cases}
 use Rattle.std.proofs.Math.Option.{Option, none, some}
 use Rattle.field.specs.Field.{F, 𝟎, 𝟏, α, ◌⊕◌, ◌⊙◌, ◌≟◌, ⊕_self, ⊕-equal, ⊕-group, zero-⊕, zero-⊙, ⊙-one}
-use Rattle.field.specs.Field.{⊙-ring, ⊙-factor, ⊙_nonzero, pow, pow-one, pow-add, pow-⊙}
+use Rattle.field.specs.Field.{⊙-ring, pow, pow-one, pow-add, pow-⊙}
+use Rattle.field.proofs.Field.{⊙-factor, ⊙_nonzero}
 use Rattle.series.specs.Series.{Series, ◌⊞◌, ⊞-at, ⊞-group}
 use Rattle.series.specs.Value.{value, value_none, value-last}
 use Rattle.series.specs.Word.{entry, word, weight, length-word, entry-word, word_ext, weight_cong, weight-none}

@@ -13,8 +13,10 @@ use native.Mathlib.Omega.{arith}
 use Rattle.std.proofs.Math.Decide.{ℕ_discrete}
 use Rattle.std.specs.Int.Bits.{bit_xor}
 use Rattle.field.specs.Field.{F, 𝟎, 𝟏, ◌⊕◌, ◌⊙◌, ◌≟◌, ⊕_self, ⊕-group, ⊕-zero, zero-⊙}
-use Rattle.field.specs.Field.{one-⊙, one≢zero, pow, pow-one, pow-suc, log, pow-log, log-pow}
-use Rattle.field.specs.Field.{power_inj, power_nonzero, of, of_one}
+use Rattle.field.specs.Field.{one-⊙, one≢zero, pow, pow-one, pow-suc, log}
+use Rattle.field.proofs.Field.{pow-log, log-pow}
+use Rattle.field.specs.Field.{of, of_one}
+use Rattle.field.proofs.Field.{power_inj, power_nonzero}
 use Rattle.series.specs.Series.{Series, O, ◌⊞◌, O-at, ⊞-at, ⊞-group}
 use Rattle.series.specs.Shift.{zpow, zpow-one, zpow-other}
 use Rattle.series.specs.Value.{value, value-last, value-zero, value-zpow}

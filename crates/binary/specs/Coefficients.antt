@@ -11,7 +11,8 @@ use Rattle.std.proofs.Common.{arith, sym, ap, ap₂, ◌∙◌}
 use Rattle.std.proofs.Math.Path.{fun_ext}
 use Rattle.field.specs.declared.Gf.{Gf}
 use Rattle.field.specs.Field.{F, 𝟎, ◌⊕◌, ◌⊙◌, ◌≟◌, ⊕-zero, ⊙-one, one-⊙, zero-⊙, ⊙-ring, pow, pow-zero, pow-suc}
-use Rattle.field.specs.Field.{pow-add, pow_255, val, val-zero}
+use Rattle.field.specs.Field.{pow-add, val, val-zero}
+use Rattle.field.proofs.Field.{pow_255}
 use Rattle.series.specs.Series.{Series, O, K, Z, ◌⊞◌, ◌⊠◌, tail, O-at, ⊠-ring, ⊞-at, ⊠_at0, ⊠-suc, K_at0, ⊠-zero}
 use Rattle.series.specs.Series.{zero-⊠, tail_at, tail-K, tail-⊞, tail-Z-⊠, tail-O, ⊞-zero, zero-⊞, Z-⊠_at0, head_tail}
 use Rattle.series.specs.Array.{values, read_at}

@@ -8,7 +8,8 @@ use Rattle.std.proofs.Math.Path.{refl}
 use Rattle.std.proofs.Common.{sym, ap, ◌∙◌, subst, arith}
 use Rattle.std.proofs.Math.Logic.{by_cases}
 use Rattle.field.specs.Field.{F, 𝟎, ◌⊕◌, ◌⊙◌, ◌≟◌, ⊕_assoc, ⊕_comm, ⊕-left_comm, ⊕-equal, ⊕-zero, zero-⊙, ⊙-zero}
-use Rattle.field.specs.Field.{⊙-ring, ⊙_assoc, ⊙_nonzero, ⊕_lc, pow, pow_nonzero, is_zero_yes, is_zero_no}
+use Rattle.field.specs.Field.{⊙-ring, ⊙_assoc, ⊕_lc, pow, is_zero_yes, is_zero_no}
+use Rattle.field.proofs.Field.{⊙_nonzero, pow_nonzero}
 use Rattle.series.specs.Series.{Series, O}
 use Rattle.binary.specs.Coefficients.{◌◂◌, ◂-O, ◂_at0, ◂-suc, pow_2, powers}
 use Rattle.binary.specs.Algorithm.{State}

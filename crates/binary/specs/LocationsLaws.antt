@@ -10,8 +10,10 @@ use Rattle.std.proofs.Common.{sym, ap, ◌∙◌, inl, inr, ⊎_elim, arith, len
 use Rattle.std.proofs.Math.Decide.{ℕ_discrete}
 use Rattle.field.specs.declared.Gf.{Gf}
 use Rattle.field.specs.Field.{F, 𝟎, 𝟏, α, ◌⊕◌, ◌⊙◌, ◌≟◌, of, byte, val, inv, log, pow, ⊙-ring, ⊕_lc, ⊕-equal, one-⊙}
-use Rattle.field.specs.Field.{⊙-factor, mul-inv, of-byte, byte_of, byte_lt, byte_inj, val_of, pow-one, pow-suc}
-use Rattle.field.specs.Field.{pow-add, pow_mul, pow-log, pow_255}
+use Rattle.field.specs.Field.{of-byte, byte_of, byte_lt, byte_inj, val_of, pow-one, pow-suc}
+use Rattle.field.proofs.Field.{⊙-factor, mul-inv}
+use Rattle.field.specs.Field.{pow-add, pow_mul}
+use Rattle.field.proofs.Field.{pow-log, pow_255}
 use Rattle.series.specs.Series.{Series}
 use Rattle.binary.specs.Coefficients.{pow_3, pow_cycle}
 use Rattle.binary.specs.Locations.{Factors, over, Symmetric, xyz, xzy, yxz, yzx, zxy, zyx, quadratic, cubic}

@@ -15,7 +15,8 @@ use Rattle.std.proofs.Math.Logic.{by_cases}
 use Rattle.std.proofs.Math.Decide.{dec_le}
 use Rattle.std.specs.Int.Signed.{non_neg}
 use Rattle.field.specs.Field.{F, 𝟎, 𝟏, ◌⊕◌, ◌⊙◌, pow, is_zero_yes, is_zero_no, ◌≟◌}
-use Rattle.field.specs.Field.{⊙-ring, ⊙-zero, one-⊙, ⊙_nonzero, one≢zero, ⊕_lc}
+use Rattle.field.specs.Field.{⊙-ring, ⊙-zero, one-⊙, one≢zero, ⊕_lc}
+use Rattle.field.proofs.Field.{⊙_nonzero}
 use Rattle.series.specs.Series.{Series, K, Z, ◌⊞◌, ◌⊠◌, ⊠-ring, K-⊠-at, ⊠_assoc, ⊞_lc}
 use Rattle.key_equation.specs.Shared.{swaps, k_swap, k_hold}
 use Rattle.key_equation.specs.Plain as Plain

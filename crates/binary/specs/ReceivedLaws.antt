@@ -18,8 +18,9 @@ use Rattle.std.proofs.lemmas.Nat.{and_comm, and_mask}
 use Rattle.std.proofs.lemmas.List.{length-replicate}
 use Rattle.std.proofs.Math.ListN.{get_or-append, get_or-eq_default}
 use Rattle.field.specs.Field.{F, 𝟎, 𝟏, α, ◌⊕◌, ◌⊙◌, of, byte, pow, power_table, ⊙_assoc, ⊙-left_comm, ⊙-one, one-⊙}
-use Rattle.field.specs.Field.{⊕-group, zero-⊙, of-byte, of_inj, of_mod, of_xor, of_zero, of_one, pow-zero, pow-suc}
-use Rattle.field.specs.Field.{power_table-at}
+use Rattle.field.specs.Field.{⊕-group, zero-⊙, of-byte, of_inj, of_xor, of_zero, of_one, pow-zero, pow-suc}
+use Rattle.field.proofs.Field.{of_mod}
+use Rattle.field.proofs.Field.{power_table-at}
 use Rattle.series.specs.Value.{value, value_none, value-last, value-more}
 use Rattle.series.specs.Array.{bytes, read_at, below-read}
 use Rattle.binary.specs.Definition.{Bit, Bits, bits?}

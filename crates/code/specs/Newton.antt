@@ -9,7 +9,8 @@ use Rattle.std.proofs.Math.Path.{sym}
 use Rattle.std.proofs.Common.{◌∙◌, ap, ap₂, mul-zero, mul-suc, arith}
 use Rattle.std.proofs.Math.Decide.{dec_le}
 use Rattle.field.specs.Field.{F, 𝟎, 𝟏, α, ◌⊕◌, ◌⊙◌, ⊕_self, ⊕-group, ⊙-zero, zero-⊙, ⊙-one, one-⊙, ⊙-ring, one≢zero}
-use Rattle.field.specs.Field.{⊙_nonzero, pow, pow-zero, pow-add, power_apart}
+use Rattle.field.specs.Field.{pow, pow-zero, pow-add}
+use Rattle.field.proofs.Field.{⊙_nonzero, power_apart}
 use Rattle.series.specs.Sum.{sum, sum_cong, sum-⊕, ⊙-sum}
 
 unfoldable pub newton : ℕ → ℕ → F

@@ -9,8 +9,10 @@ use Rattle.std.specs.Prelude.{ℕ, ◌+◌, ◌-◌, ◌≤◌, ◌<◌, ◌≡�
 use Rattle.std.proofs.Common.{sym, ◌∙◌, ap, ap₂, arith}
 use Rattle.std.proofs.Math.Logic.{by_cases}
 use Rattle.std.proofs.Math.Decide.{dec_le}
-use Rattle.field.specs.Field.{F, 𝟎, α, ◌⊕◌, ◌⊙◌, zero-⊕, ⊕_self, ⊕_cancel, ⊙_cancel}
-use Rattle.field.specs.Field.{pow, pow-add, power_inj, power_nonzero}
+use Rattle.field.specs.Field.{F, 𝟎, α, ◌⊕◌, ◌⊙◌, zero-⊕, ⊕_self, ⊕_cancel}
+use Rattle.field.proofs.Field.{⊙_cancel}
+use Rattle.field.specs.Field.{pow, pow-add}
+use Rattle.field.proofs.Field.{power_inj, power_nonzero}
 use Rattle.series.specs.Sum.{sum}
 use Rattle.series.specs.Series.{Series, ◌⊞◌, ⊞-at}
 use Rattle.series.specs.Shift.{drop, zpow-at, drop_at}

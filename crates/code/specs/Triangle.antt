@@ -17,7 +17,8 @@ use Rattle.std.proofs.Common.{◌∙◌, lt-ltb, le-ltb}
 use native.Mathlib.Omega.{arith}
 use Rattle.std.proofs.Math.Decide.{dec_lt}
 use Rattle.field.specs.Field.{F, 𝟎, ◌⊕◌, ◌⊙◌, zero-⊕, ⊕-zero, ⊙-zero, zero-⊙, one-⊙, ⊙-⊕}
-use Rattle.field.specs.Field.{⊙-ring, inv, mul-inv, ⊙-factor}
+use Rattle.field.specs.Field.{⊙-ring, inv}
+use Rattle.field.proofs.Field.{mul-inv, ⊙-factor}
 use Rattle.series.specs.Sum.{sum, sum-suc, sum_cong, sum-zero, ⊙-sum, sum_split}
 use Rattle.series.specs.Series.{Series, ◌⊞◌}
 use Rattle.profile.specs.declared.Profile.{Profile}

@@ -9,7 +9,8 @@
 -- (remainder-top).
 use Rattle.std.specs.Prelude.{ℕ, zero, suc, ◌+◌, ◌-◌, ◌≤◌, ◌<◌, ◌≡◌, refl, ◌≢◌, List, length, get_or}
 use Rattle.std.proofs.Common.{sym, ap, ap₂, ◌∙◌, arith}
-use Rattle.field.specs.Field.{F, 𝟎, ◌⊕◌, ◌⊙◌, of, zero-⊕, ⊙-zero, ⊙_assoc, ⊙_cancel, ⊙-ring, pow, pow-add, pow_nonzero}
+use Rattle.field.specs.Field.{F, 𝟎, ◌⊕◌, ◌⊙◌, of, zero-⊕, ⊙-zero, ⊙_assoc, ⊙-ring, pow, pow-add}
+use Rattle.field.proofs.Field.{⊙_cancel, pow_nonzero}
 use Rattle.series.specs.Series.{Series, O, K, Z, ◌⊞◌, ◌⊠◌, tail, ⊠-ring, O-at, ⊞-at, K-⊠-at, Z-⊠_at0, Z-⊠-at}
 use Rattle.series.specs.Shift.{zpow, drop, cut, zpow-suc, zpow-low, zpow-other, zpow_divide}
 use Rattle.series.specs.Shift.{drop_at0, drop-suc, drop-zpow, cut-suc}

@@ -10,8 +10,10 @@
 use Rattle.std.specs.Prelude.{ℕ, ◌+◌, ◌-◌, ◌%◌, ◌≤◌, ◌<◌, ◌≡◌, Bool, List, T, eqb, length, get_or}
 use Rattle.std.proofs.Common.{sym, ap, ap₂, ◌∙◌, arith, eqb→eq}
 use Rattle.std.proofs.Math.Nat.{sub-zero}
-use Rattle.field.specs.Field.{F, α, ◌⊕◌, ◌⊙◌, ⊙_comm, one-⊙, pow, pow-add, power_255, power_mod}
-use Rattle.field.specs.Field.{of, of-byte, of_zero, power_table, power_table-at}
+use Rattle.field.specs.Field.{F, α, ◌⊕◌, ◌⊙◌, ⊙_comm, one-⊙, pow, pow-add}
+use Rattle.field.proofs.Field.{power_255, power_mod}
+use Rattle.field.specs.Field.{of, of-byte, of_zero, power_table}
+use Rattle.field.proofs.Field.{power_table-at}
 use Rattle.field.specs.Test.{all, all-at}
 use Rattle.series.specs.Series.{Series, K, ◌⊠◌, K-⊠-at}
 use Rattle.series.specs.Shift.{drop, cut, cut_low, cut_high, cut_unique, cut-K-⊠, drop-none}

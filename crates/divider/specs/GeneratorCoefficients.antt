@@ -12,8 +12,9 @@ use Rattle.std.specs.Prelude.{◌≡◌, ◌≢◌, List, length, set}
 use Rattle.std.proofs.Common.{sym, ap₂, ◌∙◌, add-one, arith}
 use Rattle.std.proofs.Math.Path.{ap, fun_ext}
 use Rattle.field.specs.Field.{F, 𝟎, 𝟏, α, ◌⊕◌, ◌⊙◌, of, pow, ⊕-group, ⊕_lc, ⊕-zero, zero-⊕, ⊙-zero, one-⊙}
-use Rattle.field.specs.Field.{⊙_cancel, ⊙-ring, log, pow-log, pow-zero, pow-suc, pow-add, power_255}
-use Rattle.field.specs.Field.{power_nonzero, power_apart}
+use Rattle.field.specs.Field.{⊙-ring, log, pow-zero, pow-suc, pow-add}
+use Rattle.field.proofs.Field.{⊙_cancel, pow-log, power_255}
+use Rattle.field.proofs.Field.{power_nonzero, power_apart}
 use Rattle.series.specs.Series.{Series, O, K, Z, ◌⊞◌, ◌⊠◌, ⊠-ring, ⊞-at, K-suc, K-⊠-at, Z-⊠_at0}
 use Rattle.series.specs.Series.{Z-⊠-at, ⊞-⊠, ⊠_assoc, ⊠-zero, head_tail}
 use Rattle.series.specs.Shift.{zpow, drop, zpow-suc, zpow-at, zpow-one, zpow-other}

@@ -11,7 +11,8 @@
 use Rattle.std.specs.Prelude.{ℕ, ◌+◌, ◌-◌, ◌*◌, ◌≤◌, ◌<◌, ◌≡◌, refl, ◌≢◌, List, length, get_or, set}
 use Rattle.std.proofs.Common.{sym, ap, ap₂, ◌∙◌, arith, length-set, get_or-set_same, get_or-set_other}
 use Rattle.std.proofs.Math.Decide.{dec_lt, ℕ_discrete}
-use Rattle.field.specs.Field.{F, 𝟎, α, ◌⊙◌, of, of_zero, of_one, of_double, ⊙-zero}
+use Rattle.field.specs.Field.{F, 𝟎, α, ◌⊙◌, of, of_zero, of_one, ⊙-zero}
+use Rattle.field.proofs.Field.{of_double}
 use Rattle.series.specs.Series.{Series, K, ◌⊞◌, ◌⊠◌, ⊠-ring, one-⊠, zero-⊠, K-zero, K-⊠-at}
 use Rattle.series.specs.Array.{bytes}
 use Rattle.kernel.specs.Power.{Power, power-one, power-more, power-high}

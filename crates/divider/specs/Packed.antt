@@ -17,7 +17,8 @@ use Rattle.std.proofs.Common.{sym, ap, ap₂, ◌∙◌, mul_assoc, pow-suc, ari
 use Rattle.std.proofs.Math.Path.{fun_ext}
 use Rattle.std.specs.Int.Bits.{bit_xor, xor_shifted}
 use Rattle.std.proofs.lemmas.Nat.{xor_shr, xor_lt}
-use Rattle.field.specs.Field.{𝟎, ◌⊕◌, of, of_xor, of_zero, of_mod, of_inj, zero-⊕}
+use Rattle.field.specs.Field.{𝟎, ◌⊕◌, of, of_xor, of_zero, of_inj, zero-⊕}
+use Rattle.field.proofs.Field.{of_mod}
 use Rattle.series.specs.Series.{Series, O, K, Z, ◌⊞◌, ◌⊠◌, tail, ⊠-ring, ⊞_lc, ⊠_comm, O-at, K_at0, K-suc, ⊞-at, ⊞_comm}
 use Rattle.series.specs.Series.{Z-⊠_at0, Z-⊠-at, one-⊠, ⊠_assoc}
 use Rattle.series.specs.Shift.{zpow, drop, cut, zpow-zero, zpow-suc, zpow-add, zpow-at, zpow_divide}

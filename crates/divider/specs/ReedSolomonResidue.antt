@@ -10,7 +10,8 @@
 use Rattle.std.specs.Prelude.{ℕ, ◌+◌, ◌-◌, ◌≤◌, ◌<◌, ◌≡◌, List, length, take}
 use Rattle.std.proofs.Common.{sym, ap₂, ◌∙◌, arith, length-take-le}
 use Rattle.std.proofs.Math.Path.{ap, fun_ext}
-use Rattle.field.specs.Field.{F, ◌⊕◌, ◌⊙◌, of, ⊕-group, pow, power_nonzero}
+use Rattle.field.specs.Field.{F, ◌⊕◌, ◌⊙◌, of, ⊕-group, pow}
+use Rattle.field.proofs.Field.{power_nonzero}
 use Rattle.series.specs.Series.{Series, ◌⊞◌, ⊞-group}
 use Rattle.series.specs.Shift.{drop, cut, cut_low, cut-drop}
 use Rattle.series.specs.Degree.{below, below-cut, below-⊞}

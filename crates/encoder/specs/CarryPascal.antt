@@ -13,7 +13,8 @@ use Rattle.std.proofs.Math.Path.{sym, ap, ap₂, fun_ext}
 use Rattle.std.proofs.Common.{◌∙◌, zero-add, add-zero, add-suc, suc-add}
 use native.Mathlib.Omega.{arith}
 use Rattle.field.specs.Field.{F, 𝟎, 𝟏, α, ◌⊕◌, ◌⊙◌, zero-⊕, ⊕_comm, zero-⊙, ⊙-one, one-⊙, ⊙_assoc, ⊙-ring, inv}
-use Rattle.field.specs.Field.{mul-inv, pow, pow-zero, pow-suc}
+use Rattle.field.specs.Field.{pow, pow-zero, pow-suc}
+use Rattle.field.proofs.Field.{mul-inv}
 use Rattle.series.specs.Sum.{sum, sum-none, sum_head, sum_cong, sum-zero, sum_split, sum-⊕, ⊙-sum, sum-suc}
 use Rattle.series.specs.Series.{Series, O, O-at, K, ◌⊞◌, ◌⊠◌, ⊞-at, ⊞-group, K-⊠-at}
 use Rattle.series.specs.Shift.{cut, cut-⊞, cut-K-⊠}

@@ -12,7 +12,8 @@ use Rattle.std.proofs.Common.{ap₂, ◌∙◌, true≢false, add-one, arith, eq
 use Rattle.std.proofs.Math.Bool.{and-true, and-false}
 use Rattle.std.proofs.Math.Decide.{ℕ_discrete}
 use Rattle.field.specs.Field.{F, 𝟎, 𝟏, α, ◌⊕◌, ◌⊙◌, zero-⊕, ⊕_self, ⊙-one, one-⊙, ⊙-zero, zero-⊙, ⊙_assoc, ⊙_comm}
-use Rattle.field.specs.Field.{⊙-ring, one≢zero, ⊙_nonzero, pow, pow_mul, power_apart, inv, inv_mul}
+use Rattle.field.specs.Field.{⊙-ring, one≢zero, pow, pow_mul, inv}
+use Rattle.field.proofs.Field.{⊙_nonzero, power_apart, inv_mul}
 use Rattle.series.specs.Sum.{sum, sum_cong, sum-swap, sum_one, ⊙-sum, sum-⊙}
 use Rattle.series.specs.Series.{Series, K}
 use Rattle.series.specs.Degree.{below, below-K}

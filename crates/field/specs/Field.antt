@@ -1,4 +1,5 @@
--- GF(256) in one place, for whoever builds on it: the type, its operations and every law. No proof above this crate
+-- GF(256) in one place, for whoever builds on it: the type, its operations and the laws that hold whatever the tables
+-- are; those of the tables, of powers of α and of inverses are passed on by `proofs.Field`. No proof above this crate
 -- opens the field.
 pub use Rattle.field.specs.Definition.{F, 𝟎, 𝟏, α, ◌⊕◌, ◌⊙◌, pow, inv, log, of, byte, is_zero, val}
 pub use Rattle.field.specs.Definition.{power_table, log_table}
@@ -10,9 +11,4 @@ pub use Rattle.field.specs.Byte.{of-byte, byte_of, byte_lt, byte_inj, of_inj, of
 pub use Rattle.field.specs.Byte.{of_two, byte-zero, of_nonzero, ◌≟◌, is_zero_yes, is_zero_no, is_zero_true}
 pub use Rattle.field.specs.Byte.{is_zero_false, val_of, val_inj, val-zero, val-one, val-alpha, val-is-zero}
 pub use Rattle.field.specs.Byte.{val_nonzero}
-pub use Rattle.field.specs.Double.{of_twice, of_double, of-high, of_parts, of_mod}
 pub use Rattle.field.specs.Power.{pow-zero, pow-suc, pow-one, pow-add, pow_mul, one-pow, pow-⊙}
-pub use Rattle.field.specs.Log.{log_lt, pow-log, log-pow, power_table-at, power_table-last}
-pub use Rattle.field.specs.Inverse.{pow_255, mul-inv, inv_mul, inv-zero, inv_unique, inv_nonzero}
-pub use Rattle.field.specs.Inverse.{⊙_cancel, ⊙-factor, ⊙_nonzero, pow_nonzero, power_255, power_nonzero}
-pub use Rattle.field.specs.Inverse.{power_inj, power_apart, power_mod}

@@ -4,8 +4,5 @@ pub mod Sum
 pub mod Product
 pub mod Test
 pub mod Byte
-pub mod Double
 pub mod Power
-pub mod Log
-pub mod Inverse
 pub mod Field

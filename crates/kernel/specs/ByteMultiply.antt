@@ -7,7 +7,8 @@
 use Rattle.std.specs.Prelude.{ℕ, ◌*◌, ◌/◌, ◌%◌, ◌<◌, ◌≡◌}
 use Rattle.std.proofs.Common.{sym, ap, ap₂, ◌∙◌, one-mul, zero-mul, arith}
 use Rattle.std.proofs.Math.Decide.{ℕ_discrete}
-use Rattle.field.specs.Field.{F, α, ◌⊕◌, ◌⊙◌, of, of_zero, of_one, of_two, of_parts, zero-⊕, zero-⊙, one-⊙, ⊙-ring}
+use Rattle.field.specs.Field.{F, α, ◌⊕◌, ◌⊙◌, of, of_zero, of_one, of_two, zero-⊕, zero-⊙, one-⊙, ⊙-ring}
+use Rattle.field.proofs.Field.{of_parts}
 
 abbrev pub Times : ℕ → ℕ → ℕ → Type 0
 Times a m p = of p ≡ of m ⊙ of a

@@ -8,7 +8,8 @@
 use Rattle.std.specs.Prelude.{ℕ, ◌/◌, ◌%◌, ◌<◌, ◌≡◌, List, get_or}
 use Rattle.std.proofs.Common.{sym, ap, ap₂, ◌∙◌, arith}
 use Rattle.std.specs.Int.Bits.{bit_xor}
-use Rattle.field.specs.Field.{F, ◌⊕◌, ◌⊙◌, of, of_parts, ⊙-ring}
+use Rattle.field.specs.Field.{F, ◌⊕◌, ◌⊙◌, of, ⊙-ring}
+use Rattle.field.proofs.Field.{of_parts}
 use Rattle.series.specs.Series.{Series}
 use Rattle.series.specs.Shift.{cut, cut_low}
 use Rattle.series.specs.Array.{bytes, read_at}

@@ -8,7 +8,8 @@ use Rattle.std.specs.Prelude.{ℕ, suc, ◌+◌, ◌^◌, ◌≤◌, ◌<◌, �
 use Rattle.std.proofs.Common.{sym, ap, ◌∙◌, arith}
 use Rattle.std.proofs.Math.Decide.{dec_le}
 use Rattle.std.proofs.Math.Nat.{two-pow-succ, pow-le-pow_right, one-le-pow}
-use Rattle.field.specs.Field.{◌⊕◌, of, of-high}
+use Rattle.field.specs.Field.{◌⊕◌, of}
+use Rattle.field.proofs.Field.{of-high}
 
 pub record Power (w : ℕ) : Type 0 where
   pub exponent : ℕ

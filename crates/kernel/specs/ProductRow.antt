@@ -9,7 +9,8 @@
 -- w goes on by level-more: entry w + i is entry i and w times c.
 use Rattle.std.specs.Prelude.{ℕ, ◌+◌, ◌≤◌, ◌<◌, ◌≡◌, refl, List, length}
 use Rattle.std.proofs.Common.{sym, ap, ap₂, ◌∙◌, arith}
-use Rattle.field.specs.Field.{F, α, ◌⊕◌, ◌⊙◌, of, of_zero, of_one, of_double, zero-⊙, one-⊙, ⊙_assoc, ⊙_comm, ⊕-⊙}
+use Rattle.field.specs.Field.{F, α, ◌⊕◌, ◌⊙◌, of, of_zero, of_one, zero-⊙, one-⊙, ⊙_assoc, ⊙_comm, ⊕-⊙}
+use Rattle.field.proofs.Field.{of_double}
 use Rattle.series.specs.Series.{Series, O, ◌⊞◌, ◌⊠◌}
 use Rattle.series.specs.Shift.{zpow, drop, cut, drop_at, cut_low, cut-none, cut-zero}
 use Rattle.series.specs.Array.{bytes}

@@ -9,7 +9,8 @@ use Rattle.std.specs.Prelude.{ℕ, ◌+◌, ◌≤◌, ◌<◌, ◌≡◌, refl,
 use Rattle.std.proofs.Common.{sym, ◌∙◌, arith}
 use Rattle.std.proofs.Math.Path.{ap, subst}
 use Rattle.std.proofs.Math.Bool.{cond}
-use Rattle.field.specs.Field.{F, 𝟎, 𝟏, ◌⊙◌, is_zero, ⊙_nonzero}
+use Rattle.field.specs.Field.{F, 𝟎, 𝟏, ◌⊙◌, is_zero}
+use Rattle.field.proofs.Field.{⊙_nonzero}
 use Rattle.series.specs.Series.{Series, K-⊠-at}
 use Rattle.series.specs.Degree.{below, below_weaken, below-K-⊠}
 use Rattle.series.specs.Word.{entry}

@@ -5,7 +5,8 @@
 -- below r give the same measure (measure-agree) and the same factors (factors-agree).
 use Rattle.std.specs.Prelude.{ℕ, zero, suc, ◌≡◌, refl, Bool, true, false, cond, ◌≢◌}
 use Rattle.std.proofs.Common.{sym, ap, ◌∙◌, arith}
-use Rattle.field.specs.Field.{F, 𝟎, 𝟏, ◌⊙◌, inv, is_zero, one≢zero, is_zero_false, inv_nonzero, ⊙_nonzero}
+use Rattle.field.specs.Field.{F, 𝟎, 𝟏, ◌⊙◌, inv, is_zero, one≢zero, is_zero_false}
+use Rattle.field.proofs.Field.{inv_nonzero, ⊙_nonzero}
 use Rattle.series.specs.Series.{Series}
 use Rattle.series.specs.Degree.{below, below_weaken, below-K, below-⊞, below-K-⊠, below-Z-⊠}
 use Rattle.key_equation.specs.Plain as Plain

@@ -18,7 +18,8 @@ use Rattle.std.proofs.Math.Logic.{by_cases}
 use Rattle.std.proofs.Math.Decide.{dec_le}
 use Rattle.std.proofs.Math.Nat.{sub-zero}
 use Rattle.field.specs.Field.{F, 𝟎, 𝟏, ◌⊕◌, ◌⊙◌, inv}
-use Rattle.field.specs.Field.{⊕_self, ⊕-equal, zero-⊕, ⊙_assoc, one-⊙, zero-⊙, inv_mul, one≢zero}
+use Rattle.field.specs.Field.{⊕_self, ⊕-equal, zero-⊕, ⊙_assoc, one-⊙, zero-⊙, one≢zero}
+use Rattle.field.proofs.Field.{inv_mul}
 use Rattle.series.specs.Sum.{sum, sum-none, sum_head, sum_cong, sum_more, ⊙-sum}
 use Rattle.series.specs.Series.{Series, K, Z, ◌⊞◌, ◌⊠◌, at_zero, ⊞-at, ⊠-at, K-suc, Z-⊠-at}
 use Rattle.series.specs.Shift.{cut, cut_low, cut_high}

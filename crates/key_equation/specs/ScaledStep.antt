@@ -8,7 +8,8 @@ use Rattle.std.proofs.Math.Path.{refl}
 use Rattle.std.proofs.Common.{sym, ap, ap₂, ◌∙◌, add-one}
 use Rattle.std.proofs.Math.Bool.{true, false, cond}
 use Rattle.field.specs.Field.{F, 𝟎, 𝟏, ◌⊙◌, inv, is_zero, ⊙_assoc, ⊙_comm, ⊙-one, one-⊙, ⊙-zero, ⊙-ring, one≢zero}
-use Rattle.field.specs.Field.{inv_mul, ⊙_nonzero, is_zero_yes, is_zero_no, is_zero_true, is_zero_false}
+use Rattle.field.specs.Field.{is_zero_yes, is_zero_no, is_zero_true, is_zero_false}
+use Rattle.field.proofs.Field.{inv_mul, ⊙_nonzero}
 use Rattle.series.specs.Series.{Series, O, ◌⊞◌, ◌⊠◌, K, Z, tail, tail-K-⊠, K-⊠-at, O-at, K-zero}
 use Rattle.series.specs.Series.{⊠-zero, zero-⊠, ⊠-left_comm, ⊠-ring}
 use Rattle.key_equation.specs.Shared.{ahead, swaps, or_one}

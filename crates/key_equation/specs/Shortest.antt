@@ -14,7 +14,8 @@ use Rattle.std.proofs.Common.{sym, ap, ◌∙◌, arith}
 use Rattle.std.proofs.Math.Path.{subst}
 use Rattle.std.proofs.Math.Bool.{Bool, cond}
 use Rattle.std.proofs.Math.Decide.{dec_le}
-use Rattle.field.specs.Field.{F, 𝟎, 𝟏, ◌⊙◌, ⊕_self, ⊕-zero, ⊕-equal, ⊙_comm, zero-⊙, ⊙_nonzero, one≢zero, ◌≟◌}
+use Rattle.field.specs.Field.{F, 𝟎, 𝟏, ◌⊙◌, ⊕_self, ⊕-zero, ⊕-equal, ⊙_comm, zero-⊙, one≢zero, ◌≟◌}
+use Rattle.field.proofs.Field.{⊙_nonzero}
 use Rattle.series.specs.Series.{Series, O, K, Z, ◌⊞◌, ◌⊠◌, tail, at_zero, K_at0, K-⊠-at, ⊞-at, ⊠-one, Z-tail, ⊞_lc}
 use Rattle.series.specs.Shift.{zpow, drop, zpow-ring, zpow_at0, zpow-low, zpow_cancel, zpow_divide}
 use Rattle.series.specs.Degree.{below, below_weaken, below-O, below-K, below-Z, below-⊞, below-⊠, below-K-⊠, below-Z-⊠}

@@ -15,7 +15,8 @@ use Rattle.std.proofs.Math.Path.{fun_ext}
 use Rattle.std.proofs.Math.Logic.{by_cases}
 use Rattle.std.proofs.Math.Decide.{dec_le}
 use Rattle.field.specs.Field.{F, 𝟎, ◌⊕◌, ◌⊙◌, zero-⊕, ⊕_self, ⊕_cancel, ⊕-equal, ⊕-group, ⊙-zero, zero-⊙, ⊙-one, one-⊙}
-use Rattle.field.specs.Field.{⊙-left_comm, ⊙-ring, pow, pow-zero, pow-suc, inv, mul-inv}
+use Rattle.field.specs.Field.{⊙-left_comm, ⊙-ring, pow, pow-zero, pow-suc, inv}
+use Rattle.field.proofs.Field.{mul-inv}
 use Rattle.series.specs.Sum.{sum, sum_head, sum_cong, sum-zero, sum-⊕, ⊙-sum, sum-swap, sum_one}
 use Rattle.series.specs.Series.{Series, O, O-at}
 use Rattle.series.specs.Shift.{zpow, zpow-one, zpow-other, cut_unique}

@@ -5,10 +5,12 @@
 use Rattle.std.specs.Prelude.{ℕ, suc, ◌+◌, ◌-◌, ◌≤◌, ◌<◌, ◌%◌, ◌≡◌, ◌≢◌, true, false, set, replicate}
 use Rattle.std.proofs.Common.{sym, ap, ap₂, ◌∙◌, true≢false, add-one, arith}
 use Rattle.field.specs.declared.Gf.{Gf}
-use Rattle.field.specs.Field.{F, 𝟎, 𝟏, α, ◌⊕◌, ◌⊙◌, inv, val, log, ⊕_self, ⊕-equal, zero-⊕, ⊙-ring, ⊙_cancel}
-use Rattle.field.specs.Field.{⊙-one, one-⊙, ⊙_comm, mul-inv, inv_mul, inv_unique, pow-zero, pow-one, pow-add}
-use Rattle.field.specs.Field.{pow-log, log_lt, power_inj, power_mod}
-use Rattle.field.specs.Inverse.{log_inverse}
+use Rattle.field.specs.Field.{F, 𝟎, 𝟏, α, ◌⊕◌, ◌⊙◌, inv, val, log, ⊕_self, ⊕-equal, zero-⊕, ⊙-ring}
+use Rattle.field.proofs.Field.{⊙_cancel}
+use Rattle.field.specs.Field.{⊙-one, one-⊙, ⊙_comm, pow-zero, pow-one, pow-add}
+use Rattle.field.proofs.Field.{mul-inv, inv_mul, inv_unique}
+use Rattle.field.proofs.Field.{pow-log, log_lt, power_inj, power_mod}
+use Rattle.field.proofs.Inverse.{log_inverse}
 use Rattle.series.specs.Series.{Series, O, O-at}
 use Rattle.series.specs.Shift.{cut-none, cut_unique}
 use Rattle.series.specs.Degree.{below}

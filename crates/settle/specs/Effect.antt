@@ -11,7 +11,8 @@ use Rattle.std.proofs.Common.{sym, ap, ap₂, ◌∙◌, add-one, arith}
 use Rattle.std.proofs.Math.Path.{fun_ext}
 use Rattle.std.proofs.Math.Logic.{ite}
 use Rattle.field.specs.Field.{F, 𝟎, α, ◌⊙◌, ◌≟◌, of, of_zero, log, ⊙-ring, ⊙_comm, pow}
-use Rattle.field.specs.Field.{pow-suc, pow-add, pow-log, power_mod}
+use Rattle.field.specs.Field.{pow-suc, pow-add}
+use Rattle.field.proofs.Field.{pow-log, power_mod}
 use Rattle.series.specs.Series.{Series, O, K, ◌⊞◌, ◌⊠◌, ⊠-ring, O-at, ⊞-at, K-zero, K-⊠-at}
 use Rattle.series.specs.Shift.{cut, cut_low, cut-none, cut_unique, cut-⊞, cut-K-⊠}
 use Rattle.series.specs.Value.{value_none, value-last}

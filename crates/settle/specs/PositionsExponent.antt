@@ -15,9 +15,11 @@ use Rattle.std.proofs.Common.{sym, ap, ap₂, ◌∙◌, not-suc-le-zero, le_of_
 use Rattle.std.proofs.Math.Logic.{ite, if_pos, if_neg, by_cases}
 use Rattle.std.proofs.Math.Decide.{ℕ_discrete, dec_lt}
 use Rattle.std.proofs.lemmas.List.{get_or-replicate}
-use Rattle.field.specs.Field.{F, 𝟎, α, ◌⊙◌, ◌≟◌, ⊙_comm, one-⊙, zero-⊙, ⊙-factor, of, of-byte, of_zero, log, log_lt}
-use Rattle.field.specs.Field.{pow, pow-add, pow-log, pow_nonzero, power_255, power_nonzero, power_table, power_table-at}
-use Rattle.field.specs.Field.{power_table-last}
+use Rattle.field.specs.Field.{F, 𝟎, α, ◌⊙◌, ◌≟◌, ⊙_comm, one-⊙, zero-⊙, of, of-byte, of_zero, log}
+use Rattle.field.proofs.Field.{⊙-factor, log_lt}
+use Rattle.field.specs.Field.{pow, pow-add, power_table}
+use Rattle.field.proofs.Field.{pow-log, pow_nonzero, power_255, power_nonzero, power_table-at}
+use Rattle.field.proofs.Field.{power_table-last}
 use Rattle.series.specs.Series.{Series}
 use Rattle.series.specs.Shift.{cut, cut_low, cut_high}
 use Rattle.series.specs.Array.{read, read_at}

@@ -8,7 +8,8 @@
 use Rattle.std.specs.Prelude.{ℕ, zero, suc, ◌+◌, ◌≤◌, ◌≡◌, refl}
 use Rattle.std.proofs.Common.{sym, ap, ap₂, ◌∙◌, add-one}
 use Rattle.std.proofs.Math.Path.{fun_ext}
-use Rattle.field.specs.Field.{F, 𝟏, α, ◌⊙◌, ⊙-one, zero-⊙, ⊙-ring, inv_unique, pow, pow-zero}
+use Rattle.field.specs.Field.{F, 𝟏, α, ◌⊙◌, ⊙-one, zero-⊙, ⊙-ring, pow, pow-zero}
+use Rattle.field.proofs.Field.{inv_unique}
 use Rattle.field.specs.Field.{pow-suc, pow-add, pow-⊙, one-pow}
 use Rattle.series.specs.Sum.{sum}
 use Rattle.series.specs.Series.{Series}

@@ -13,8 +13,10 @@ use Rattle.std.proofs.Common.{sym, ap, ap₂, ◌∙◌, arith, length-set}
 use Rattle.std.proofs.Math.Decide.{ℕ_discrete}
 use Rattle.field.specs.declared.Gf.{Gf}
 use Rattle.field.specs.Field.{F, 𝟎, 𝟏, α, ◌⊕◌, ◌⊙◌, ⊕_self, ⊕-equal, ⊕-group, zero-⊕, ⊙_comm, ⊙-one}
-use Rattle.field.specs.Field.{one-⊙, ⊙-ring, ⊙-factor, of, val, val_of, pow, pow-zero, pow-one, pow-suc}
-use Rattle.field.specs.Field.{pow-add, pow_mul, one-pow, power_apart}
+use Rattle.field.specs.Field.{one-⊙, ⊙-ring, of, val, val_of, pow, pow-zero, pow-one, pow-suc}
+use Rattle.field.proofs.Field.{⊙-factor}
+use Rattle.field.specs.Field.{pow-add, pow_mul, one-pow}
+use Rattle.field.proofs.Field.{power_apart}
 use Rattle.series.specs.Sum.{sum, sum-none, sum-suc, sum_cong, sum_more, ⊙-sum}
 use Rattle.series.specs.Series.{Series}
 use Rattle.series.specs.Shift.{cut, cut_low, cut_unique}

@@ -17,7 +17,8 @@ use Rattle.std.specs.Prelude.{ℕ, zero, suc, ◌*◌, ◌≤◌, ◌<◌, ◌�
 use Rattle.std.proofs.Common.{sym, ap, ap₂, ◌∙◌, arith}
 use Rattle.std.proofs.Math.Logic.{ite, if_pos, if_neg, by_cases}
 use Rattle.std.proofs.Math.Option.{none, some}
-use Rattle.field.specs.Field.{F, 𝟎, 𝟏, ◌⊙◌, ◌≟◌, ⊙-zero, ⊙-ring, ⊙_nonzero, one≢zero, inv, mul-inv}
+use Rattle.field.specs.Field.{F, 𝟎, 𝟏, ◌⊙◌, ◌≟◌, ⊙-zero, ⊙-ring, one≢zero, inv}
+use Rattle.field.proofs.Field.{⊙_nonzero, mul-inv}
 use Rattle.series.specs.Series.{Series, K, ◌⊞◌, ◌⊠◌, ⊠-ring, ⊞_lc, K-⊠-at, ⊠_assoc}
 use Rattle.series.specs.Shift.{cut, cut_unique}
 use Rattle.series.specs.Degree.{below-K-⊠, below_weaken}

@@ -18,7 +18,8 @@ use Rattle.std.specs.Prelude.{◌≡◌, ◌≢◌}
 use Rattle.std.proofs.Math.Path.{sym, ap, ap₂}
 use Rattle.std.proofs.Common.{◌∙◌, arith}
 use Rattle.field.specs.Field.{F, 𝟎, ◌⊕◌, ◌⊙◌, ⊙_assoc, ⊙-left_comm, ⊙-one, one-⊙, ⊙-zero, zero-⊙, zero-⊕}
-use Rattle.field.specs.Field.{⊙-ring, ⊙_nonzero, inv, inv-zero, mul-inv, pow, pow_nonzero}
+use Rattle.field.specs.Field.{⊙-ring, inv, pow}
+use Rattle.field.proofs.Field.{⊙_nonzero, inv-zero, mul-inv, pow_nonzero}
 use Rattle.series.specs.Series.{Series, K, Z, ◌⊞◌, ◌⊠◌, K-⊠-at, ⊠_assoc}
 use Rattle.series.specs.Degree.{below_weaken}
 use Rattle.series.specs.Value.{value, value_cong, value-more, value-⊞, value-⊠, value-K-⊠, value-Z-⊠, value-zpow}

@@ -19,8 +19,10 @@ use Rattle.std.proofs.Math.Path.{fun_ext}
 use Rattle.std.proofs.Math.Logic.{ite, if_pos, if_neg, by_cases}
 use Rattle.std.proofs.Math.Decide.{ℕ_discrete}
 use Rattle.field.specs.Field.{F, 𝟎, 𝟏, α, ◌⊕◌, ◌⊙◌, ◌≟◌, ⊕_self, ⊕-equal, ⊙_assoc, ⊙-left_comm, ⊙-one, ⊙-zero, zero-⊙}
-use Rattle.field.specs.Field.{⊙-ring, ⊙-factor, ⊙_nonzero, one≢zero, inv, mul-inv, inv_unique, pow, pow-zero, pow-one}
-use Rattle.field.specs.Field.{pow-add, pow_mul, pow-⊙, power_255, power_inj, power_nonzero}
+use Rattle.field.specs.Field.{⊙-ring, one≢zero, inv, pow, pow-zero, pow-one}
+use Rattle.field.proofs.Field.{⊙-factor, ⊙_nonzero, mul-inv, inv_unique}
+use Rattle.field.specs.Field.{pow-add, pow_mul, pow-⊙}
+use Rattle.field.proofs.Field.{power_255, power_inj, power_nonzero}
 use Rattle.series.specs.Series.{Series, O, K, ◌⊞◌, ◌⊠◌, ⊠-ring, ⊞_lc, at_zero, O-at, K_at0, ⊞-at, ⊠_at0, K-⊠-at, ⊠-zero}
 use Rattle.series.specs.Degree.{below, below-O, below-K, below-⊞, below-K-⊠}
 use Rattle.series.specs.Value.{value, value_none, value-last, value-more, value-⊞, value-K, value-K-⊠, value_shift}

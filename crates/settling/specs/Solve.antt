@@ -10,7 +10,8 @@
 use Rattle.std.specs.Prelude.{ℕ, suc, ◌+◌, ◌-◌, ◌*◌, ◌≤◌, ◌<◌, ◌≡◌, ◌≢◌}
 use Rattle.std.proofs.Common.{sym, ◌∙◌, arith}
 use Rattle.std.proofs.Math.Path.{ap, fun_ext}
-use Rattle.field.specs.Field.{F, 𝟎, ◌⊙◌, ⊙_comm, ⊙-zero, zero-⊙, ⊙_cancel, ⊙-factor, one≢zero}
+use Rattle.field.specs.Field.{F, 𝟎, ◌⊙◌, ⊙_comm, ⊙-zero, zero-⊙, one≢zero}
+use Rattle.field.proofs.Field.{⊙_cancel, ⊙-factor}
 use Rattle.series.specs.Series.{Series, K, ◌⊞◌, ◌⊠◌, ⊠-ring, ⊞_lc, at_zero, K-⊠-at, ⊠-agree}
 use Rattle.series.specs.Degree.{below, below_weaken, below_one}
 use Rattle.series.specs.Value.{value, value-K-⊠, value-⊠}

@@ -15,8 +15,10 @@ use Rattle.std.proofs.Common.{sym, ap, ap₂, ◌∙◌, mul_comm, arith}
 use Rattle.std.proofs.Math.Path.{fun_ext}
 use Rattle.std.proofs.Math.Logic.{by_cases}
 use Rattle.std.proofs.Math.Option.{Option, none, some}
-use Rattle.field.specs.Field.{F, 𝟎, 𝟏, α, ◌⊙◌, ◌≟◌, ⊙_assoc, ⊙-one, one-⊙, ⊙-zero, ⊙-ring, ⊙_nonzero, ⊙-factor}
-use Rattle.field.specs.Field.{pow, pow-one, pow-add, pow_mul, pow-⊙, one-pow, pow_nonzero, power_255, power_nonzero}
+use Rattle.field.specs.Field.{F, 𝟎, 𝟏, α, ◌⊙◌, ◌≟◌, ⊙_assoc, ⊙-one, one-⊙, ⊙-zero, ⊙-ring}
+use Rattle.field.proofs.Field.{⊙_nonzero, ⊙-factor}
+use Rattle.field.specs.Field.{pow, pow-one, pow-add, pow_mul, pow-⊙, one-pow}
+use Rattle.field.proofs.Field.{pow_nonzero, power_255, power_nonzero}
 use Rattle.series.specs.Sum.{sum_cong}
 use Rattle.series.specs.Series.{Series}
 use Rattle.series.specs.Value.{value-is}

@@ -15,7 +15,8 @@ use Rattle.std.proofs.Math.Option.{Option, none, some}
 use native.Mathlib.Omega.{arith}
 use Rattle.std.proofs.Math.Decide.{dec_lt, ℕ_discrete}
 use borrow.Author.Tests.{le-leb, lt-leb, lt-ltb, le-ltb}
-use Rattle.field.specs.Field.{F, α, ◌⊙◌, pow, pow_mul, power_inj}
+use Rattle.field.specs.Field.{F, α, ◌⊙◌, pow, pow_mul}
+use Rattle.field.proofs.Field.{power_inj}
 use Rattle.series.specs.Sum.{sum, sum_cong}
 use Rattle.series.specs.Series.{Series}
 use Rattle.series.specs.Interpolation.{Distinct, solution_solves, solution_unique}

@@ -3,7 +3,7 @@ use Rattle.std.proofs.Common.{refl}
 use mathlib.Core.Bool.{xor}
 use Rattle.field.specs.Definition.{𝟎, 𝟏, α, ◌⊕◌, ◌⊙◌, times, plus, scale, z⁸, horner, modulo, coefficients, bit}
 use Rattle.field.specs.Definition.{byte, powers, place, log_of, tabulate, log_table}
-use Rattle.field.specs.Log.{log_table-at, log_table-is}
+use Rattle.field.proofs.Log.{log_table-at, log_table-is}
 use Rattle.field.proofs.logarithms.Goals as goal
 
 pub returns : goal.returns

@@ -1,6 +1,7 @@
 -- A power of zero is zero; that of a power of α is by its exponent.
 use Rattle.std.proofs.Common.{ap, arith, mul-le-mul, sym, ◌*◌, ◌∙◌, ◌≤◌}
-use Rattle.field.specs.Field.{F, α, val, log_lt, pow, is_zero_true, is_zero_false}
+use Rattle.field.specs.Field.{F, α, val, pow, is_zero_true, is_zero_false}
+use Rattle.field.proofs.Field.{log_lt}
 use Rattle.binary.specs.Coefficients.{zero-pow}
 use Rattle.binary.specs.LocationsLaws.{pow_by-log}
 use Rattle.binary.proofs.locations.power.Goals as goal

@@ -1,6 +1,7 @@
 use Rattle.std.proofs.Common.{ap, arith, length-set, rules, sym, ℕ, ◌-◌, ◌<◌, ◌∙◌, ◌≡◌}
 use lib.ListN.{length-replicate}
-use Rattle.field.specs.Field.{α, of, of_zero, pow-zero, power_mod, val_of}
+use Rattle.field.specs.Field.{α, of, of_zero, pow-zero, val_of}
+use Rattle.field.proofs.Field.{power_mod}
 use Rattle.series.specs.Series.{◌⊠◌}
 use Rattle.series.specs.Shift.{zpow, drop, cut-none}
 use Rattle.series.specs.Array.{read-zeros}

@@ -1,6 +1,7 @@
 -- The sum is not zero, so it is the power of its logarithm.
 use Rattle.std.proofs.Common.{arith}
-use Rattle.field.specs.Field.{val, val-one, log_lt}
+use Rattle.field.specs.Field.{val, val-one}
+use Rattle.field.proofs.Field.{log_lt}
 use Rattle.divider.specs.GeneratorCoefficients.{zech-log}
 use Rattle.divider.proofs.generator.zech.Goals as goal
 

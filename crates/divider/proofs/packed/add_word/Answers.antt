@@ -1,5 +1,6 @@
 use Rattle.std.proofs.Common.{ap, arith, length-set, refl, rules, suc, sym, ◌+◌, ◌∙◌, ◌≡◌}
-use Rattle.field.specs.Field.{F, ◌⊕◌, of_mod}
+use Rattle.field.specs.Field.{F, ◌⊕◌}
+use Rattle.field.proofs.Field.{of_mod}
 use Rattle.series.specs.Series.{Series, ◌⊞◌, ◌⊠◌}
 use Rattle.series.specs.Shift.{zpow}
 use Rattle.series.specs.Degree.{below-cut_eq}

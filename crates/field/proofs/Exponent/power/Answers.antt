@@ -4,8 +4,8 @@ use mathlib.Core.Bool.{xor}
 use Rattle.field.specs.Definition.{𝟎, 𝟏, α, ◌⊕◌, ◌⊙◌, times, plus, scale, z⁸, horner, modulo}
 use Rattle.field.specs.Definition.{coefficients, bit, byte, powers, val, of, power_table}
 use Rattle.field.specs.Byte.{of-byte}
-use Rattle.field.specs.Log.{power_table-at}
-use Rattle.field.specs.Inverse.{power_mod}
+use Rattle.field.proofs.Log.{power_table-at}
+use Rattle.field.proofs.Inverse.{power_mod}
 use Rattle.field.proofs.Exponent.power.Goals as goal
 
 pub returns : goal.returns

@@ -2,7 +2,7 @@
 use Rattle.std.proofs.Common.{List, ap, get_or, ℕ, ◌∙◌}
 use Rattle.field.specs.Definition.{val, of}
 use Rattle.field.specs.Byte.{of-byte}
-use Rattle.field.specs.Log.{power_table-at}
+use Rattle.field.proofs.Log.{power_table-at}
 use Rattle.field.proofs.Exponent.power_in.Goals as goal
 
 pub returns : goal.returns

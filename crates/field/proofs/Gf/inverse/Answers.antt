@@ -2,8 +2,8 @@
 use Rattle.std.proofs.Common.{ap, arith, rules, sym, ℕ, ◌-◌, ◌∙◌}
 use Rattle.field.specs.Definition.{α, pow, inv, val}
 use Rattle.field.specs.Byte.{val-zero, val-is-zero, val_nonzero}
-use Rattle.field.specs.Log.{log_lt}
-use Rattle.field.specs.Inverse.{inv-zero, log_inverse}
+use Rattle.field.proofs.Log.{log_lt}
+use Rattle.field.proofs.Inverse.{inv-zero, log_inverse}
 use Rattle.field.proofs.Gf.inverse.Goals as goal
 
 pub returns-then-self-eq0 : goal.returns-then-self-eq0

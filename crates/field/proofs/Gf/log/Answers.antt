@@ -3,7 +3,7 @@ use Rattle.std.proofs.Common.{arith, rules}
 use mathlib.Core.Bool.{xor}
 use Rattle.field.specs.Definition.{𝟎, 𝟏, α, ◌⊕◌, ◌⊙◌, times, plus, scale, z⁸, horner, modulo, coefficients, bit}
 use Rattle.field.specs.Definition.{byte, powers, place, log_of, val, tabulate, log_table}
-use Rattle.field.specs.Log.{log_table-at, log_table_lt}
+use Rattle.field.proofs.Log.{log_table-at, log_table_lt}
 use Rattle.field.proofs.Gf.log.Goals as goal
 
 pub overflow_cast-result : goal.overflow_cast-result

@@ -1,7 +1,7 @@
 -- The lent table is the one defined.
 use Rattle.std.proofs.Common.{List, ap, arith, get_or, rules, ℕ, ◌∙◌, ◌≡◌}
 use Rattle.field.specs.Definition.{val, log_table}
-use Rattle.field.specs.Log.{log_table-at, log_table_lt}
+use Rattle.field.proofs.Log.{log_table-at, log_table_lt}
 use Rattle.field.proofs.Gf.log_in.Goals as goal
 
 pub overflow_cast-result : goal.overflow_cast-result

@@ -3,8 +3,8 @@ use Rattle.std.proofs.Common.{ap, ap₂, arith, rules, sym, ℕ, ◌+◌, ◌∙
 use Rattle.field.specs.Definition.{F, α, ◌⊙◌, pow, val}
 use Rattle.field.specs.Product.{⊙-zero, zero-⊙}
 use Rattle.field.specs.Byte.{val-zero, val-is-zero, val_nonzero}
-use Rattle.field.specs.Log.{log_lt}
-use Rattle.field.specs.Inverse.{log-product}
+use Rattle.field.proofs.Log.{log_lt}
+use Rattle.field.proofs.Inverse.{log-product}
 use Rattle.field.proofs.Gf.product.Goals as goal
 
 pub returns-then-self-eq0 : goal.returns-then-self-eq0

@@ -1,6 +1,6 @@
 -- The law of doubling, for a byte.
 use Rattle.std.proofs.Common.{rules}
-use Rattle.field.specs.Field.{of_twice}
+use Rattle.field.proofs.Field.{of_twice}
 use Rattle.kernel.proofs.byte.twice.Goals as goal
 
 pub returns : goal.returns

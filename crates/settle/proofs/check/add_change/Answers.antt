@@ -1,5 +1,6 @@
 use Rattle.std.proofs.Common.{ap, arith, length-set, refl, rules, sym, ◌∙◌, ◌≡◌}
-use Rattle.field.specs.Field.{F, α, ◌⊕◌, ◌⊙◌, ⊙-one, val, val_of, pow, pow-zero, log_lt}
+use Rattle.field.specs.Field.{F, α, ◌⊕◌, ◌⊙◌, ⊙-one, val, val_of, pow, pow-zero}
+use Rattle.field.proofs.Field.{log_lt}
 use Rattle.series.specs.Series.{Series, K, ◌⊞◌, ◌⊠◌}
 use Rattle.series.specs.Shift.{cut}
 use Rattle.series.specs.Array.{bytes}

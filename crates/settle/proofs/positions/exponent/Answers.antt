@@ -1,6 +1,7 @@
 -- By the logarithm, which zero has not.
 use Rattle.std.proofs.Common.{arith, sym, ◌∙◌}
-use Rattle.field.specs.Field.{val, log_lt, is_zero_true, is_zero_false}
+use Rattle.field.specs.Field.{val, is_zero_true, is_zero_false}
+use Rattle.field.proofs.Field.{log_lt}
 use Rattle.settle.specs.PositionsExponent.{symbol-none, symbol-log}
 use Rattle.settle.proofs.positions.exponent.Goals as goal
 

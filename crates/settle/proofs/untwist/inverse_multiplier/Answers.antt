@@ -1,6 +1,7 @@
 -- The power 256 - f of the location, as a power of α.
 use Rattle.std.proofs.Common.{ap, arith, mul-le-mul, sym, ◌*◌, ◌∙◌, ◌≤◌}
-use Rattle.field.specs.Field.{α, pow, power_mod}
+use Rattle.field.specs.Field.{α, pow}
+use Rattle.field.proofs.Field.{power_mod}
 use Rattle.settling.specs.Twist.{inverse_multiplier-is}
 use Rattle.settle.proofs.untwist.inverse_multiplier.Goals as goal
 

@@ -9,7 +9,7 @@ use Rattle.field.specs.Definition.{coefficients, ◌⊙◌, pow, inv, log}
 use Rattle.field.specs.Sum.{⊕-equal}
 use Rattle.field.specs.Product.{⊙_assoc, ⊙_comm, one-⊙, ⊙-zero, zero-⊙, one≢zero, alpha≢zero}
 use Rattle.field.specs.Power.{pow-zero, pow-suc, pow-add, pow_mul, one-pow}
-use Rattle.field.specs.Log.{log_lt, pow-log, log-pow}
+use Rattle.field.proofs.Log.{log_lt, pow-log, log-pow}
 
 pub power_255 : pow α 255 ≡ 𝟏
 unfolding pow 𝟎 𝟏 α ◌⊙◌ times plus modulo horner scale z⁸ ◌⊕◌ coefficients mathlib.Core.Bool.xor
