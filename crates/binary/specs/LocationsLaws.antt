@@ -5,7 +5,8 @@
 -- Proved: what is read from such a table is a root (root-at); one of two values (one_of_two), one of three whose sum is
 -- zero (one_of_three, one-of-three_pure), and all of them (two-same, three-same); the locations from what a locator is
 -- over its constant term (finds-one, finds-two, finds-three); powers by logarithms (pow_by-log).
-use Rattle.std.specs.Prelude.{ℕ, zero, suc, ◌+◌, ◌*◌, ◌≤◌, ◌<◌, ◌≡◌, refl, ◌≢◌, ◌⊎◌, List, length, get_or, set, replicate}
+use Rattle.std.specs.Prelude.{ℕ, zero, suc, ◌+◌, ◌*◌, ◌≤◌, ◌<◌, ◌≡◌, refl, ◌≢◌, ◌⊎◌, List, length, get_or, set}
+use Rattle.std.specs.Prelude.{replicate}
 use Rattle.std.proofs.Common.{sym, ap, ◌∙◌, inl, inr, ⊎_elim, arith, length-set, get_or-set_same, get_or-set_other}
 use Rattle.std.proofs.Math.Decide.{ℕ_discrete}
 use Rattle.field.specs.declared.Gf.{Gf}

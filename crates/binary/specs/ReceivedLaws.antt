@@ -8,8 +8,10 @@
 -- is a bit, or not (bits?-more); a byte that is a bit is below two (bit-small); masks one by one (masking-none,
 -- masking-more, masking-all); one symbol more has its part in the value (part-more), and two parts are all of it
 -- (value_parts).
-use Rattle.std.specs.Prelude.{ℕ, zero, suc, ◌+◌, ◌*◌, ◌≤◌, ◌<◌, max, ◌≡◌, refl, Bool, true, false, ◌&&◌, List, [], ◌∷◌, ◌++◌, ltb, length, get_or, set, replicate, take}
-use Rattle.std.proofs.Common.{sym, ap, ap₂, ◌∙◌, ⊎_elim, arith, add-one, ltb-true, ltb-false, lt-ltb, le-ltb, length-set, take-suc, get_or-set_same, get_or-set_other}
+use Rattle.std.specs.Prelude.{ℕ, zero, suc, ◌+◌, ◌*◌, ◌≤◌, ◌<◌, max, ◌≡◌, refl, Bool, true, false, ◌&&◌, List, [], ◌∷◌}
+use Rattle.std.specs.Prelude.{◌++◌, ltb, length, get_or, set, replicate, take}
+use Rattle.std.proofs.Common.{sym, ap, ap₂, ◌∙◌, ⊎_elim, arith, add-one, ltb-true, ltb-false, lt-ltb, le-ltb}
+use Rattle.std.proofs.Common.{length-set, take-suc, get_or-set_same, get_or-set_other}
 use Rattle.std.proofs.Math.Logic.{by_cases}
 use Rattle.std.proofs.Math.Bool.{and-true, and_assoc}
 use Rattle.std.proofs.Math.Decide.{ℕ_discrete, dec_lt}

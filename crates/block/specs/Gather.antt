@@ -6,8 +6,10 @@
 -- Proved: the data of a subword are as many as its data positions (part_length), and those of the first i subwords as
 -- many as the data before subword i (before-length); how one part more is gathered (before_more). From a block that
 -- encodes data, these data are gathered (data-written).
-use Rattle.std.specs.Prelude.{ℕ, zero, suc, ◌+◌, ◌-◌, ◌*◌, ◌≤◌, ◌<◌, ◌≡◌, refl, List, [], ◌++◌, length, get_or, take, drop}
-use Rattle.std.proofs.Common.{sym, ap, ap₂, ◌∙◌, add-one, suc-mul, arith, length-drop, length-append, length-take-le, take-add, take_all, take_at, get_or-take, get_or-drop, ext_get_or}
+use Rattle.std.specs.Prelude.{ℕ, zero, suc, ◌+◌, ◌-◌, ◌*◌, ◌≤◌, ◌<◌, ◌≡◌, refl, List, [], ◌++◌, length, get_or, take}
+use Rattle.std.specs.Prelude.{drop}
+use Rattle.std.proofs.Common.{sym, ap, ap₂, ◌∙◌, add-one, suc-mul, arith, length-drop, length-append, length-take-le}
+use Rattle.std.proofs.Common.{take-add, take_all, take_at, get_or-take, get_or-drop, ext_get_or}
 use Rattle.std.proofs.Math.Seq.{take-append-add}
 use Rattle.field.specs.Field.{of, of_inj}
 use Rattle.series.specs.Array.{bytes, read_at}

@@ -4,8 +4,10 @@
 -- (reached_lists). From section to section it goes on: a read failed (unread_reached), the section was judged and its
 -- line was written (line_reached), or the line was not written (unwritten_reached); and the end comes nearer
 -- (over-falls).
-use Rattle.std.specs.Prelude.{ℕ, ◌+◌, ◌-◌, ◌≤◌, ◌<◌, ◌≡◌, refl, Bool, true, false, cond, List, [], ◌++◌, length, take, drop}
-use Rattle.std.proofs.Common.{sym, ap, ◌∙◌, subst, true≢false, append-nil, append_assoc, arith, take-append-drop, length-take-le, take_all, take_at, drop_at, drop-drop}
+use Rattle.std.specs.Prelude.{ℕ, ◌+◌, ◌-◌, ◌≤◌, ◌<◌, ◌≡◌, refl, Bool, true, false, cond, List, [], ◌++◌, length, take}
+use Rattle.std.specs.Prelude.{drop}
+use Rattle.std.proofs.Common.{sym, ap, ◌∙◌, subst, true≢false, append-nil, append_assoc, arith, take-append-drop}
+use Rattle.std.proofs.Common.{length-take-le, take_all, take_at, drop_at, drop-drop}
 use Rattle.std.proofs.Math.Logic.{by_cases}
 use Rattle.std.proofs.Math.Decide.{dec_lt}
 use Rattle.std.proofs.Math.Seq.{drop-length, drop-nil}

@@ -2,7 +2,8 @@
 --
 -- Proved: some sections are left, unless all is printed (some_left); a step brings the end nearer (step_falls), for
 -- bytes that are below 256.
-use Rattle.std.specs.Prelude.{ℕ, suc, ◌+◌, ◌-◌, ◌≤◌, ◌<◌, ◌≡◌, refl, Bool, true, false, cond, List, eqb, ltb, length, get_or, take}
+use Rattle.std.specs.Prelude.{ℕ, suc, ◌+◌, ◌-◌, ◌≤◌, ◌<◌, ◌≡◌, refl, Bool, true, false, cond, List, eqb, ltb, length}
+use Rattle.std.specs.Prelude.{get_or, take}
 use Rattle.std.proofs.Common.{true≢false, arith, ltb-true, get_or-take}
 use Rattle.profile.specs.declared.Profile.{Profile}
 use Rattle.profile.specs.declared.Parsed.{Parsed}

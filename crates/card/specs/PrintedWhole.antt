@@ -8,7 +8,8 @@
 -- (list-printed). How short the reads were that brought the bytes of a section does not enter. A card without a profile
 -- has the list of the card with the seven bytes that no bytes stand for (none-printed), and one with seven bytes that
 -- of the card with an eighth byte of 1 (seven-printed).
-use Rattle.std.specs.Prelude.{ℕ, ◌≤◌, ◌<◌, ◌≡◌, refl, Bool, true, false, cond, List, [], ◌∷◌, ◌++◌, ltb, length, get_or, take, drop}
+use Rattle.std.specs.Prelude.{ℕ, ◌≤◌, ◌<◌, ◌≡◌, refl, Bool, true, false, cond, List, [], ◌∷◌, ◌++◌, ltb, length, get_or}
+use Rattle.std.specs.Prelude.{take, drop}
 use Rattle.std.proofs.Common.{sym, ap, ap₂, ◌∙◌, subst, arith, lt-ltb, le-ltb, length-append, take_at}
 use Rattle.std.proofs.Math.Path.{subst⁻¹}
 use Rattle.profile.specs.declared.questions.Caller.TheVariants.{Card}

@@ -7,7 +7,8 @@
 -- subwords (codeword_cong, encodes_cong); the syndromes of a nested word are the sums of its subwords' syndromes
 -- (syndrome-nested).
 use Rattle.std.specs.Prelude.{ℕ, zero, suc, ◌+◌, ◌*◌, ◌/◌, ◌%◌, ◌≤◌, ◌<◌, ◌≡◌, refl}
-use Rattle.std.proofs.Common.{sym, ◌∙◌, mul-zero, suc-mul, mul-le-mul_right, div-add-mod', mod-lt, div-lt_iff_lt-mul, arith}
+use Rattle.std.proofs.Common.{sym, ◌∙◌, mul-zero, suc-mul, mul-le-mul_right, div-add-mod', mod-lt, div-lt_iff_lt-mul}
+use Rattle.std.proofs.Common.{arith}
 use Rattle.std.proofs.Math.Path.{ap}
 use Rattle.field.specs.Field.{α, ◌⊙◌, pow}
 use Rattle.series.specs.Sum.{sum, sum_cong}

@@ -5,7 +5,8 @@
 -- Proved: no subword and one subword more (combined-none, combined-more); a nested word is such a sum
 -- (combined-nested); from subword v on nothing is carried (carried_none); a subword as a part of the bytes of a block
 -- (subword-part), and a multiple of it added to a word (add-part).
-use Rattle.std.specs.Prelude.{ℕ, suc, ◌+◌, ◌-◌, ◌*◌, ◌≤◌, ◌<◌, ◌≡◌, refl, List, ◌++◌, length, take, drop as drop-list, replicate}
+use Rattle.std.specs.Prelude.{ℕ, suc, ◌+◌, ◌-◌, ◌*◌, ◌≤◌, ◌<◌, ◌≡◌, refl, List, ◌++◌, length, take, drop as drop-list}
+use Rattle.std.specs.Prelude.{replicate}
 use Rattle.std.proofs.Math.Path.{sym, ap, fun_ext}
 use Rattle.std.proofs.Common.{ap₂, ◌∙◌, add-one, arith}
 use Rattle.std.proofs.Math.Decide.{dec_lt}

@@ -26,7 +26,8 @@ pub record Right (p : Profile) (d s : Series) (i : ℕ) : Type 0 where
   pub zeros : (j : ℕ) → j < checks p i → syndrome_of p (corner p s i) j ≡ 𝟎
 
 pub all_right : (p : Profile) → Valid p → (d s : Series) → ((i : ℕ) → i < p.subwords → Right p d s i) → Encodes p d s
-all_right p ok d s h = record { code = triangle-codeword p s ok (λ i l. (h i l).zeros); carries = λ i l. (h i l).carries }
+all_right p ok d s h =
+    record { code = triangle-codeword p s ok (λ i l. (h i l).zeros); carries = λ i l. (h i l).carries }
 
 pub right-all : (p : Profile) → Valid p → (d s : Series) → Encodes p d s → (i : ℕ) → i < p.subwords → Right p d s i
 right-all p ok d s e i h = record { carries = e.carries i h; zeros = codeword_triangle p s ok e.code i h }

@@ -27,7 +27,8 @@ all-zero l h = fun_ext (λ j.
     entry j k = read_at of 0 l j ∙ ap of (h j k) ∙ of_zero
 
 some_byte : (l : List ℕ) (i : ℕ) → get_or l i 0 ≢ 0 → get_or l i 0 < 256 → bytes l ≢ O
-some_byte l i h small e = of_nonzero (get_or l i 0) small h (sym (read_at of 0 l i) ∙ ap (λ (f : Series). f i) e ∙ O-at i)
+some_byte l i h small e =
+    of_nonzero (get_or l i 0) small h (sym (read_at of 0 l i) ∙ ap (λ (f : Series). f i) e ∙ O-at i)
 
 pub record Bits (l : List ℕ) (i bits : ℕ) : Type 0 where
   pub none : bits ≡ 0 → (j : ℕ) → j < i → get_or l j 0 ≡ 0
@@ -36,7 +37,8 @@ pub record Bits (l : List ℕ) (i bits : ℕ) : Type 0 where
 pub bits_none : (l : List ℕ) → Bits l 0 0
 bits_none l = record { none = λ _. below_none _; some = λ h. absurd (h refl) }
 
-pub bits-more : (l : List ℕ) (i bits : ℕ) → Bits l i bits → get_or l i 0 < 256 → Bits l (i + 1) (bit_or bits (get_or l i 0))
+pub bits-more : (l : List ℕ) (i bits : ℕ) → Bits l i bits → get_or l i 0 < 256
+    → Bits l (i + 1) (bit_or bits (get_or l i 0))
 bits-more l i bits p small =
     record {
       none = λ e. below_more _ i (p.none (both e).0) (both e).1;
@@ -45,7 +47,8 @@ bits-more l i bits p small =
   where
     both : bit_or bits (get_or l i 0) ≡ 0 → (bits ≡ 0) × (get_or l i 0 ≡ 0)
     both e =
-        let s : bit_or bits (get_or l i 0) + bit_and bits (get_or l i 0) ≡ bits + get_or l i 0 = or_add_and bits (get_or l i 0) in
+        let s : bit_or bits (get_or l i 0) + bit_and bits (get_or l i 0) ≡ bits + get_or l i 0 = or_add_and bits
+        (get_or l i 0) in
         let a : bit_and bits (get_or l i 0) ≤ bits = and_le_l bits (get_or l i 0) in
         let b : bit_and bits (get_or l i 0) ≤ get_or l i 0 = and_le_r bits (get_or l i 0) in
         (omega arith, omega arith)

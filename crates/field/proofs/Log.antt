@@ -1,7 +1,9 @@
 -- Logarithms: every value but 𝟎 is a power of α, and of one exponent below 255.
 --
--- Proved: pow-log, log-pow, log_lt; what each entry of the two tables is (power_table-at, power_table-last, log_table-at).
-use Rattle.std.specs.Prelude.{◌≡◌, refl, Bool, true, false, ◌&&◌, ◌||◌, ◌≢◌, List, [], ◌∷◌, ◌++◌, ℕ, zero, suc, ◌+◌, ◌<◌, T, eqb, ltb, length, get_or}
+-- Proved: pow-log, log-pow, log_lt; what each entry of the two tables is (power_table-at, power_table-last,
+-- log_table-at).
+use Rattle.std.specs.Prelude.{◌≡◌, refl, Bool, true, false, ◌&&◌, ◌||◌, ◌≢◌, List, [], ◌∷◌, ◌++◌, ℕ, zero, suc, ◌+◌}
+use Rattle.std.specs.Prelude.{◌<◌, T, eqb, ltb, length, get_or}
 use Rattle.std.proofs.Common.{ap, sym, ◌∙◌, add-zero, zero-add, add-suc, suc-add, arith, eqb→eq, ltb→lt, ext_get_or}
 use Rattle.std.proofs.Math.Bool.{xor}
 use Rattle.std.proofs.Math.ListN.{get_or-append}

@@ -36,7 +36,8 @@ of-byte (poly a0 a1 a2 a3 a4 a5 a6 a7) =
     let h6 : bit a6 < 2 = bit_lt a6 in
     let h7 : bit a7 < 2 = bit_lt a7 in
     λ i.
-    poly (is_odd-bit n a0 (omega arith) i) (is_odd-bit (n / 2) a1 (omega arith) i) (is_odd-bit (n / 4) a2 (omega arith) i)
+    poly (is_odd-bit n a0 (omega arith) i) (is_odd-bit (n / 2) a1 (omega arith) i) (is_odd-bit (n / 4) a2 (omega
+    arith) i)
     (is_odd-bit (n / 8) a3 (omega arith) i) (is_odd-bit (n / 16) a4 (omega arith) i)
     (is_odd-bit (n / 32) a5 (omega arith) i)
     (is_odd-bit (n / 64) a6 (omega arith) i) (is_odd-bit (n / 128) a7 (omega arith) i)

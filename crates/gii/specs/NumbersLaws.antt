@@ -3,8 +3,10 @@
 -- Proved: a list takes up three numbers (put_three) or two (put_two), line after line (lines_none, lines_more,
 -- lines-all; bits_none, bits-more, bits-all), part after part (listed_parts); a buffer is filled number by number
 -- (filled_more, filled-length, filled-all, filled-up).
-use Rattle.std.specs.Prelude.{ℕ, zero, suc, ◌+◌, ◌*◌, ◌≤◌, ◌<◌, ◌≡◌, refl, List, [], ◌∷◌, ◌++◌, length, get_or, set, take, drop}
-use Rattle.std.proofs.Common.{sym, ap, ap₂, ◌∙◌, append_assoc, append-nil, add-one, arith, length-set, length-append, length-drop, drop_of_length-le, take_all, take-suc-set, length-take-le}
+use Rattle.std.specs.Prelude.{ℕ, zero, suc, ◌+◌, ◌*◌, ◌≤◌, ◌<◌, ◌≡◌, refl, List, [], ◌∷◌, ◌++◌, length, get_or, set}
+use Rattle.std.specs.Prelude.{take, drop}
+use Rattle.std.proofs.Common.{sym, ap, ap₂, ◌∙◌, append_assoc, append-nil, add-one, arith, length-set, length-append}
+use Rattle.std.proofs.Common.{length-drop, drop_of_length-le, take_all, take-suc-set, length-take-le}
 use Rattle.staged_decoding.specs.Definition.{Line}
 use Rattle.stages.specs.declared.report.Line as stored
 use Rattle.stages.specs.Report.{verdict_of, says}
@@ -44,7 +46,8 @@ three l k x y z h =
     ∙ append_assoc (take k l) (x ∷ y ∷ []) (z ∷ [])
 
 pub put_three : (list x : List ℕ) (k : ℕ) → k + 3 ≤ length list → length x ≡ 3
-    → take (k + 3) (set (set (set list k (get_or x 0 0)) (k + 1) (get_or x 1 0)) (k + 2) (get_or x 2 0)) ≡ take k list ++ x
+    → take (k + 3) (set (set (set list k (get_or x 0 0)) (k + 1) (get_or x 1 0)) (k + 2) (get_or x 2 0)) ≡ take k list
+    ++ x
 put_three list x k h e = three list k (get_or x 0 0) (get_or x 1 0) (get_or x 2 0) h
     ∙ ap (λ n. take k list ++ n) (entries x e)
 

@@ -4,7 +4,8 @@
 -- (copied_more). Where the first k entries of a list are written anew, it is what was written and the list from k on
 -- (front); in a list of zeros, what was written alone (front-zeros). The first entries of zeros are zeros
 -- (prefix-zeros).
-use Rattle.std.specs.Prelude.{ℕ, ◌+◌, ◌≤◌, ◌<◌, ◌≡◌, List, ◌++◌, length, get_or, set, take, replicate, drop as drop-list}
+use Rattle.std.specs.Prelude.{ℕ, ◌+◌, ◌≤◌, ◌<◌, ◌≡◌, List, ◌++◌, length, get_or, set, take, replicate}
+use Rattle.std.specs.Prelude.{drop as drop-list}
 use Rattle.std.proofs.Common.{sym, ap, ap₂, ◌∙◌, arith, get_or-set_same, get_or-set_other}
 use Rattle.std.proofs.Math.Path.{fun_ext}
 use Rattle.std.proofs.Math.Decide.{ℕ_discrete}

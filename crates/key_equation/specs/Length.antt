@@ -6,7 +6,8 @@
 -- Proved: k at the start, at a hold (the length stays) and at a swap (it becomes r + 1 − L); an iteration is a swap if
 -- its discrepancy is not 0 and 2L ≤ r; L is the length that `len` reads from k (len_of), and no other number has its k
 -- (k_of-length).
-use Rattle.std.specs.Prelude.{ℕ, zero, suc, ◌+◌, ◌-◌, ◌≤◌, ◌<◌, ◌/◌, ◌≡◌, refl, ◌≢◌, true, false, not, ◌&&◌, ℤ, pos, negsuc, ◌-ℤ◌, leb}
+use Rattle.std.specs.Prelude.{ℕ, zero, suc, ◌+◌, ◌-◌, ◌≤◌, ◌<◌, ◌/◌, ◌≡◌, refl, ◌≢◌, true, false, not, ◌&&◌, ℤ, pos}
+use Rattle.std.specs.Prelude.{negsuc, ◌-ℤ◌, leb}
 use Rattle.std.proofs.Common.{sym, ap, ap₂, ◌∙◌, arith, le-leb, lt-ltb, le-ltb}
 use Rattle.std.proofs.Math.Bool.{and-false}
 use Rattle.std.proofs.Math.Decide.{dec_le}

@@ -66,8 +66,8 @@ module _ (r : ℕ) (S : Series) (m : Plain.State) where
   Δ-is : Lookahead.next_Δ w ≡ ahead (suc r) (Plain.update δ m) S
   Δ-is =
       let e : ahead (suc r) (Plain.update δ m) S
-          ≡ K m.γ ⊠ tail (ahead r m.Λ S) ⊞ K (m.γ ⊙ S (r + 1)) ⊠ m.Λ ⊞ K δ ⊠ ahead r m.B S
-              ⊞ K (δ ⊙ S (r + 1)) ⊠ (Z ⊠ m.B) = ahead-update r m.γ δ m.Λ m.B S ∙ simp (towards_suc, ⊠-ring) in
+      ≡ K m.γ ⊠ tail (ahead r m.Λ S) ⊞ K (m.γ ⊙ S (r + 1)) ⊠ m.Λ ⊞ K δ ⊠ ahead r m.B S
+      ⊞ K (δ ⊙ S (r + 1)) ⊠ (Z ⊠ m.B) = ahead-update r m.γ δ m.Λ m.B S ∙ simp (towards_suc, ⊠-ring) in
       sym e
 
   δS-is : m.γ ⊙ S (r + 2) ⊙ ahead r m.Λ S 1 ⊕ m.γ ⊙ S (r + 1) ⊙ S (r + 2) ⊙ m.Λ 0
@@ -75,9 +75,9 @@ module _ (r : ℕ) (S : Series) (m : Plain.State) where
       ≡ Lookahead.next_Δ w 0 ⊙ S (r + 2)
   δS-is =
       let e : m.γ ⊙ S (r + 2) ⊙ ahead r m.Λ S 1 ⊕ m.γ ⊙ S (r + 1) ⊙ S (r + 2) ⊙ m.Λ 0
-          ⊕ δ ⊙ (ahead r m.B S 0 ⊙ S (r + 2))
-          ≡ (K m.γ ⊠ tail (ahead r m.Λ S) ⊞ K (m.γ ⊙ S (r + 1)) ⊠ m.Λ ⊞ K δ ⊠ ahead r m.B S
-              ⊞ K (δ ⊙ S (r + 1)) ⊠ (Z ⊠ m.B)) 0 ⊙ S (r + 2) = simp (⊞-at, K-⊠-at, Z-⊠_at0, tail_at, ⊙-ring) in
+      ⊕ δ ⊙ (ahead r m.B S 0 ⊙ S (r + 2))
+      ≡ (K m.γ ⊠ tail (ahead r m.Λ S) ⊞ K (m.γ ⊙ S (r + 1)) ⊠ m.Λ ⊞ K δ ⊠ ahead r m.B S
+      ⊞ K (δ ⊙ S (r + 1)) ⊠ (Z ⊠ m.B)) 0 ⊙ S (r + 2) = simp (⊞-at, K-⊠-at, Z-⊠_at0, tail_at, ⊙-ring) in
       e
 
   -- what a swap and a hold share: the lines with whatever new B, γ and k, and Θ and θ_S to suit B

@@ -5,8 +5,11 @@
 -- room (appended_full) come to; what a line is that was appended to nothing (appended-line); the digits of a number
 -- (decimal-one, decimal-more), and that a number below 2^16 has at most five (decimal-short), so that every line has
 -- room (blocks-short, ok-short, refused-short, card-short).
-use Rattle.std.specs.Prelude.{ℕ, zero, suc, ◌+◌, ◌-◌, ◌*◌, ◌/◌, ◌%◌, ◌≤◌, ◌<◌, ◌≡◌, refl, List, [], ◌∷◌, ◌++◌, length, get_or, take, drop, set}
-use Rattle.std.proofs.Common.{sym, ap, ap₂, ◌∙◌, append_assoc, append-nil, div-add-mod', mod-lt, arith, lt-ltb, le-ltb, length-set, length-append, length-take, take-append-drop, take_all, take-suc, take-take, take_at, length-take-le, drop-drop}
+use Rattle.std.specs.Prelude.{ℕ, zero, suc, ◌+◌, ◌-◌, ◌*◌, ◌/◌, ◌%◌, ◌≤◌, ◌<◌, ◌≡◌, refl, List, [], ◌∷◌, ◌++◌, length}
+use Rattle.std.specs.Prelude.{get_or, take, drop, set}
+use Rattle.std.proofs.Common.{sym, ap, ap₂, ◌∙◌, append_assoc, append-nil, div-add-mod', mod-lt, arith, lt-ltb, le-ltb}
+use Rattle.std.proofs.Common.{length-set, length-append, length-take, take-append-drop, take_all, take-suc, take-take}
+use Rattle.std.proofs.Common.{take_at, length-take-le, drop-drop}
 use Rattle.std.proofs.Math.Logic.{by_cases}
 use Rattle.std.proofs.Math.Decide.{dec_lt, dec_le}
 use Rattle.std.proofs.lemmas.List.{take-append-le, set_split}

@@ -3,7 +3,8 @@
 --   Within p s i   subword i of the profile p is one of a block of s symbols, and has data
 --
 -- Proved: it is so of an accepted fetch; the data positions are in the block; they are some.
-use Rattle.std.specs.Prelude.{ℕ, zero, suc, ◌+◌, ◌-◌, ◌*◌, ◌≤◌, ◌<◌, ◌≡◌, refl, false, List, [], ◌∷◌, length, take, drop}
+use Rattle.std.specs.Prelude.{ℕ, zero, suc, ◌+◌, ◌-◌, ◌*◌, ◌≤◌, ◌<◌, ◌≡◌, refl, false, List, [], ◌∷◌, length, take}
+use Rattle.std.specs.Prelude.{drop}
 use Rattle.std.proofs.Common.{ap₂, mul-le-mul_right, suc-mul, add-one, arith, ltb-true, eqb-true, length-drop}
 use Rattle.profile.specs.declared.Profile.{Profile}
 use Rattle.profile.specs.declared.Parsed.TheVariants.{Accepted}

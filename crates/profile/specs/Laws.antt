@@ -31,7 +31,8 @@ capability-past p (suc (suc (suc (suc r)))) h = refl
 
 -- what stands for a byte that is missing is no matter
 pub byte_there : (b : List ℕ) (i x y : ℕ) → i < length b → get_or b i x ≡ get_or b i y
-byte_there b i x y h = sym (get_or-set_same b i (get_or b i x) y h) ∙ ap (λ (l : List ℕ). get_or l i y) (set-get_or b i x)
+byte_there b i x y h =
+    sym (get_or-set_same b i (get_or b i x) y h) ∙ ap (λ (l : List ℕ). get_or l i y) (set-get_or b i x)
 
 -- ---- tests for the number 0
 

@@ -9,8 +9,10 @@
 -- (writing_reads); capabilities do not fall, and are at most 24; subwords with a smaller number have more check
 -- symbols, each has at least 2 t0, at most 48 and fewer than n; the data size counts the data positions, so data
 -- symbols have numbers below it.
-use Rattle.std.specs.Prelude.{ℕ, zero, suc, ◌+◌, ◌-◌, ◌*◌, ◌≤◌, ◌<◌, ◌≡◌, refl, Bool, true, false, cond, List, leb, get_or}
-use Rattle.std.proofs.Common.{◌∙◌, subst, zero-mul, suc-mul, add-zero, add-suc, arith, leb-true, ltb-true, eqb-true, le-leb, lt-ltb, le-ltb, eq-eqb}
+use Rattle.std.specs.Prelude.{ℕ, zero, suc, ◌+◌, ◌-◌, ◌*◌, ◌≤◌, ◌<◌, ◌≡◌, refl, Bool, true, false, cond, List, leb}
+use Rattle.std.specs.Prelude.{get_or}
+use Rattle.std.proofs.Common.{◌∙◌, subst, zero-mul, suc-mul, add-zero, add-suc, arith, leb-true, ltb-true, eqb-true}
+use Rattle.std.proofs.Common.{le-leb, lt-ltb, le-ltb, eq-eqb}
 use Rattle.std.proofs.Math.Bool.{and-eq-true_iff}
 use Rattle.std.proofs.Math.Nat.{sub-zero}
 use Rattle.std.proofs.Math.Decide.{dec_lt}

@@ -30,7 +30,8 @@ Claim (product a b c) = byte (of a ⊙ of b) ≡ c
 Claim (written b d s) =
     (profile_of b ≡ Accepted (read b)) × (length d ≡ data_size (read b))
     × (encoding (read b) (map of d) ≡ some (map of s))
-Claim (plain_run S Λ B γ k) = (finish plain (map of S ∷ [])).state ≡ record { Λ = bytes Λ; B = bytes B; γ = of γ; k = k }
+Claim (plain_run S Λ B γ k) =
+    (finish plain (map of S ∷ [])).state ≡ record { Λ = bytes Λ; B = bytes B; γ = of γ; k = k }
 Claim (scaled_run S Λ B γ') =
     ((finish scaled (map of S ∷ [])).state.Λ ≡ bytes Λ) × ((finish scaled (map of S ∷ [])).state.B ≡ bytes B)
     × ((finish scaled (map of S ∷ [])).state.γ' ≡ of γ')

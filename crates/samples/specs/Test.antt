@@ -6,7 +6,8 @@
 --   accepted b      the profile with the bytes b is accepted
 --   encodes p d s   the block s encodes the data d: its symbols in the data positions, and each syndrome that the
 --                   codeword check walks
-use Rattle.std.specs.Prelude.{ℕ, ◌+◌, ◌<◌, ◌≡◌, refl, Bool, true, false, ◌&&◌, List, T, eqb, leb, ℤ, pos, negsuc, length, get_or}
+use Rattle.std.specs.Prelude.{ℕ, ◌+◌, ◌<◌, ◌≡◌, refl, Bool, true, false, ◌&&◌, List, T, eqb, leb, ℤ, pos, negsuc}
+use Rattle.std.specs.Prelude.{length, get_or}
 use Rattle.std.proofs.Common.{sym, ap, ◌∙◌, arith, eqb→eq, leb→le}
 use Rattle.std.proofs.Math.Path.{fun_ext}
 use Rattle.std.proofs.Math.Decide.{dec_lt}

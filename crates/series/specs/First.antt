@@ -11,7 +11,8 @@ use Rattle.std.specs.Prelude.{ℕ, zero, suc, ◌<◌, ◌≡◌, refl, ◌↔�
 use Rattle.std.proofs.Common.{sym, ◌∙◌, ap, subst, arith}
 use Rattle.std.proofs.Math.Path.{fun_ext}
 use Rattle.std.proofs.Math.Logic.{ite, if_pos, if_neg}
-use Rattle.std.proofs.Math.Option.{Option, none, some, or_else, map, map-eq-none_iff, map-eq-some_iff, some-injective, none-ne-some, some-ne-none}
+use Rattle.std.proofs.Math.Option.{Option, none, some, or_else, map, map-eq-none_iff, map-eq-some_iff, some-injective}
+use Rattle.std.proofs.Math.Option.{none-ne-some, some-ne-none}
 use Rattle.std.proofs.Math.Decide.{ℕ_discrete}
 use Rattle.field.specs.Field.{F, of, byte, of-byte, byte_lt}
 

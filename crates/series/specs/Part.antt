@@ -6,7 +6,8 @@
 -- read_left, read_right); a part is the series from a on, cut at n (read-part, read_prefix); the whole with another
 -- part in it has the new part inside (splice-inside) and is as it was after it (splice-after).
 use Rattle.std.specs.Prelude.{ℕ, ◌+◌, ◌-◌, ◌≤◌, ◌<◌, ◌≡◌, List, ◌++◌, length, take, drop as drop-list}
-use Rattle.std.proofs.Common.{sym, ap, ◌∙◌, arith, length-drop, get_or-take, get_or-drop, get_or-append-add, length-take-le}
+use Rattle.std.proofs.Common.{sym, ap, ◌∙◌, arith, length-drop, get_or-take, get_or-drop, get_or-append-add}
+use Rattle.std.proofs.Common.{length-take-le}
 use Rattle.std.proofs.Math.ListN.{get_or-append}
 use Rattle.field.specs.Field.{F, 𝟎}
 use Rattle.series.specs.Shift.{cut, cut_unique, drop, drop_at}

@@ -141,7 +141,8 @@ module _ (t n L : ℕ) (s Λ : Series) (r : Settled) (hn : n ≤ 255) where
         → holds (explains? 1 t n s (values pattern)) ≡ true
         → Promised 1 t n L s Λ r
     found f p c h =
-        let x : Explains 1 t n s (values r.pattern) = rw p (test-passed (explains? 1 t n s (values pattern)) h) in record {
+        let x : Explains 1 t n s (values r.pattern) = rw p (test-passed (explains? 1 t n s (values pattern)) h) in
+        record {
           sound = record {
             explains = λ _. x;
             nothing = λ g. absurd (true≢false (sym f ∙ g));
@@ -181,7 +182,8 @@ module _ (f t n L : ℕ) (s Λ : Series) (r : Settled) (hn : n ≤ 255) (promise
         answer-found n q found
         ∙ ap some (word_ext n _ _ (length-word n _) (length-word n _) (λ p l. entry-word n _ p l ∙ at p l
         ∙ sym (entry-word n _ p l ∙ untwist_cong f _ _ p (entry-word n (values r.pattern) p l))))
-        ∙ sym (settle-untwisted f t n s hn ∙ ap (untwisted f n) (sym (promised.settled scaled same) ∙ answer-found n r h));
+        ∙ sym (settle-untwisted f t n s hn ∙ ap (untwisted f n) (sym (promised.settled scaled same)
+        ∙ answer-found n r h));
   }
     where
       at : (p : ℕ) → p < n → values q.pattern p ≡ untwist f (values r.pattern) p

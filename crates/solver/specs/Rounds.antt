@@ -9,7 +9,8 @@
 use Prim.Native.Nat.{ℕ, suc, ◌+◌, ◌-◌, ◌≤◌, ◌<◌, min}
 use Rattle.std.specs.Prelude.{◌≡◌, refl, drop}
 use Rattle.std.proofs.Math.Path.{sym, ap, ap₂}
-use Rattle.std.proofs.Common.{◌∙◌, add-one, length-take, length-drop, take-append-drop, drop_of_length-le, drop_at, drop-cons, take-add, drop-drop}
+use Rattle.std.proofs.Common.{◌∙◌, add-one, length-take, length-drop, take-append-drop, drop_of_length-le, drop_at}
+use Rattle.std.proofs.Common.{drop-cons, take-add, drop-drop}
 use mathlib.Core.List.{List, [], ◌∷◌, ◌++◌, map, append_assoc, append-nil}
 use Rattle.std.proofs.Math.Decide.{dec_le}
 use Rattle.std.proofs.Math.Nat.{min-eq_left, min-eq_right, min-le_right}

@@ -1,7 +1,8 @@
 -- k as a signed number of the code.
 --
 -- Proved: a difference of two small numbers fits an i32, and is k where the second is twice the length.
-use Rattle.std.specs.Prelude.{ℕ, zero, suc, ◌+◌, ◌-◌, ◌≤◌, ◌<◌, ◌^◌, ◌≡◌, refl, Bool, true, false, cond, ltb, pos, negsuc, ◌-ℤ◌}
+use Rattle.std.specs.Prelude.{ℕ, zero, suc, ◌+◌, ◌-◌, ◌≤◌, ◌<◌, ◌^◌, ◌≡◌, refl, Bool, true, false, cond, ltb, pos}
+use Rattle.std.specs.Prelude.{negsuc, ◌-ℤ◌}
 use Rattle.std.proofs.Common.{sym, ap, ap₂, ◌∙◌, subst, add-zero, arith, le-ltb, SFits, to_z, of_z, to_z-of_z}
 use Rattle.std.proofs.Math.Nat.{sub-zero}
 use Rattle.std.proofs.Math.IntN.{sub_ℕ}

@@ -22,7 +22,8 @@
 --   decode p y           what the received block y is decoded to
 --   differences p s t i  at how many positions subword i differs in the blocks s and t; bit_differences: in how many
 --                        bits
-use Rattle.std.specs.Prelude.{ℕ, zero, suc, ◌+◌, ◌-◌, ◌*◌, Bool, true, false, not, cond, ◌&&◌, List, [], ◌∷◌, ◌++◌, leb, ltb, eqb}
+use Rattle.std.specs.Prelude.{ℕ, zero, suc, ◌+◌, ◌-◌, ◌*◌, Bool, true, false, not, cond, ◌&&◌, List, [], ◌∷◌, ◌++◌, leb}
+use Rattle.std.specs.Prelude.{ltb, eqb}
 use Rattle.std.proofs.Math.Logic.{ite}
 use Rattle.std.proofs.Math.Option.{Option, none, some, get_or}
 use Rattle.std.proofs.Math.Decide.{ℕ_discrete}

@@ -235,7 +235,12 @@ module _ (p : Profile) (ok : Valid p) (c y : Series) (u : Unmistaken p c y) wher
       let f : Fates p c y (suc r) (2 * capability p r) (after_stage p y r) =
       λ i h. stage_fate r (omega arith) earlier (before_stage p y r) i h (fates_before r (omega arith) earlier i h) in
       round_fates r (after_stage p y r) low
-      (omega (arith, open-count r (2 * capability p r) (omega arith) (after_stage p y r) f, (reached r (omega arith)).1))
+      (omega (
+        arith,
+        open-count r (2 * capability p r) (omega arith) (after_stage p y r) f,
+        (reached r (omega
+            arith)).1,
+      ))
       f
 
   pub fates_after : (r : ℕ) → r ≤ p.nested → Reached p c y r

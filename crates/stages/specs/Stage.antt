@@ -55,7 +55,8 @@ pub record Mid (p : Profile) (f : Form) (r : ℕ) (g : Progress) (k : ℕ) (b : 
 
 -- ---- what is shown of a subword
 
-shown_yes : (pending : List Bool) (lines : List Line) (k : ℕ) (d : Bool) → k < length pending → get_or pending k d ≡ true
+shown_yes : (pending : List Bool) (lines : List Line) (k : ℕ) (d : Bool) → k < length pending
+    → get_or pending k d ≡ true
     → shown pending lines k ≡ none
 unfolding shown
 shown_yes pending lines k d h e = rw (any_default pending k true d h, e)

@@ -8,7 +8,8 @@ pub returns-then-first-eq1 : goal.returns-then-first-eq1
 returns-then-first-eq1 c = rw c.if-first-eq1.true c.settle_at_alpha-s.ensures
 
 pub returns-then-not-s : goal.returns-then-not-s
-returns-then-not-s c = untwist-nothing _ _ _ _ _ _ _ c.requires.0 c.settle_at_alpha-s.ensures (not-true _ c.if-not-s.true)
+returns-then-not-s c =
+    untwist-nothing _ _ _ _ _ _ _ c.requires.0 c.settle_at_alpha-s.ensures (not-true _ c.if-not-s.true)
 
 pub returns : goal.returns
 returns c =

@@ -17,7 +17,8 @@ returns-then-size-eq0 c =
     let now = c.loop-at in
     let y = c.read-r.new.buf in
     let same = same_len_mid now.at (length now.buf - now.at) now.buf y c.read-r.auto.buf in record {
-      reads = fill_none _ _ _ now.buf y _ now.at _ now.invariant.2 now.invariant.0 c.read-r.ensures.reads (omega arith) _
+      reads =
+          fill_none _ _ _ now.buf y _ now.at _ now.invariant.2 now.invariant.0 c.read-r.ensures.reads (omega arith) _
           (omega (arith, same));
       counts = counted now.buf _ now.at same now.invariant.0;
     }

@@ -4,7 +4,8 @@ use Rattle.stream.specs.Definition.{Took}
 use Rattle.stream.proofs.fill.Given as goal
 
 abbrev pub invariant-loop-at : goal.invariant-loop-at
-invariant-loop-at l = (l.at ≤ length l.buf) × (length l.buf ≡ length l.initial.buf) × Took l.initial.x (take l.at l.buf) l.x
+invariant-loop-at l =
+    (l.at ≤ length l.buf) × (length l.buf ≡ length l.initial.buf) × Took l.initial.x (take l.at l.buf) l.x
 
 abbrev pub decreases-loop-at : goal.decreases-loop-at
 decreases-loop-at l = length l.buf - l.at

@@ -6,7 +6,8 @@ use Rattle.block.proofs.gather.gather.Given as goal
 
 abbrev pub invariant-loop-i : goal.invariant-loop-i
 invariant-loop-i l =
-    (l.i ≤ l.p.subwords) × (l.at ≡ data_start l.p l.i) × (length l.out ≡ data_size l.p) × (take l.at l.out ≡ data_before l.p l.i l.block)
+    (l.i ≤ l.p.subwords) × (l.at ≡ data_start l.p l.i) × (length l.out ≡ data_size l.p)
+    × (take l.at l.out ≡ data_before l.p l.i l.block)
 
 abbrev pub decreases-loop-i : goal.decreases-loop-i
 decreases-loop-i l = l.p.subwords - l.i

@@ -1,4 +1,5 @@
-use Rattle.std.proofs.Common.{add-one, ap, arith, mul-le-mul_right, refl, rules, suc-mul, sym, zero-mul, ◌*◌, ◌+◌, ◌∙◌, ◌≡◌, ◌≤◌}
+use Rattle.std.proofs.Common.{add-one, ap, arith, mul-le-mul_right, refl, rules, suc-mul, sym, zero-mul, ◌*◌, ◌+◌, ◌∙◌}
+use Rattle.std.proofs.Common.{◌≡◌, ◌≤◌}
 use Rattle.field.specs.Field.{α, pow}
 use Rattle.series.specs.Shift.{cut}
 use Rattle.series.specs.Array.{bytes}

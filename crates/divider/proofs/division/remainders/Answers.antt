@@ -20,7 +20,8 @@ returns-then-k-le32 c =
     (rw narrow left.0, rw narrow left.1, rw narrow left.2, rw narrow left.3)
 
 pub remainders-p-requires : goal.remainders-p-requires
-remainders-p-requires c = (rw (rows-wide c.args.k (omega (arith, c.if-k-le32.false))) at c.requires.0, c.requires.1, c.requires.2)
+remainders-p-requires c =
+    (rw (rows-wide c.args.k (omega (arith, c.if-k-le32.false))) at c.requires.0, c.requires.1, c.requires.2)
 
 pub remainders-q-requires : goal.remainders-q-requires
 remainders-q-requires c = (

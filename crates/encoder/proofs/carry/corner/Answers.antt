@@ -3,7 +3,8 @@ use Rattle.encoder.specs.CarryPascal.{gathers-none, gathers-first, gathers-next,
 use Rattle.encoder.proofs.carry.corner.Goals as goal
 
 pub loop-j-init : goal.loop-j-init
-loop-j-init c = (search rules, refl, refl, refl, gathers-none _ _ _ _ _ 255, gathers-none _ _ _ _ _ 255, gathers-none _ _ _ _ _ 255)
+loop-j-init c =
+    (search rules, refl, refl, refl, gathers-none _ _ _ _ _ 255, gathers-none _ _ _ _ _ 255, gathers-none _ _ _ _ _ 255)
 
 pub loop-j-preserved : goal.loop-j-preserved
 loop-j-preserved c =

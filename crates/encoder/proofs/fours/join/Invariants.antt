@@ -7,7 +7,8 @@ use Rattle.encoder.proofs.fours.join.Given as goal
 
 abbrev pub invariant-loop-q : goal.invariant-loop-q
 invariant-loop-q l =
-    (l.q ≤ length l.from) × (length l.word ≡ length l.initial.word) × (bytes l.word ≡ bytes l.initial.word ⊞ zpow l.at ⊠ cut l.q (bytes l.from))
+    (l.q ≤ length l.from) × (length l.word ≡ length l.initial.word)
+    × (bytes l.word ≡ bytes l.initial.word ⊞ zpow l.at ⊠ cut l.q (bytes l.from))
 
 abbrev pub decreases-loop-q : goal.decreases-loop-q
 decreases-loop-q l = length l.from - l.q

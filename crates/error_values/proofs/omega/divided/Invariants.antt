@@ -10,7 +10,8 @@ use Rattle.error_values.proofs.omega.divided.Given as goal
 
 abbrev pub invariant-loop-j : goal.invariant-loop-j
 invariant-loop-j l =
-    (l.j ≤ 48) × Filled 48 l.j (quotient (factor l.row) (Row l.s)) l.out × (of l.v ≡ (Z ⊠ quotient (factor l.row) (Row l.s)) l.j)
+    (l.j ≤ 48) × Filled 48 l.j (quotient (factor l.row) (Row l.s)) l.out
+    × (of l.v ≡ (Z ⊠ quotient (factor l.row) (Row l.s)) l.j)
 
 abbrev pub decreases-loop-j : goal.decreases-loop-j
 decreases-loop-j l = 48 - l.j

@@ -7,7 +7,8 @@ use Rattle.field.proofs.Log.{log_table-at, log_table_lt}
 use Rattle.field.proofs.Gf.log.Goals as goal
 
 pub overflow_cast-result : goal.overflow_cast-result
-unfolding log_table tabulate log_of place powers byte bit 𝟎 𝟏 α ◌⊙◌ times plus modulo horner scale z⁸ ◌⊕◌ coefficients xor
+unfolding log_table tabulate log_of place powers byte bit 𝟎 𝟏 α ◌⊙◌ times plus modulo horner scale z⁸ ◌⊕◌ coefficients
+    xor
 overflow_cast-result c = omega (arith, log_table_lt c.args.self.0 (search rules))
 
 pub returns : goal.returns

@@ -8,7 +8,8 @@ use Rattle.field.proofs.Inverse.{log-product}
 use Rattle.field.proofs.Gf.product.Goals as goal
 
 pub returns-then-self-eq0 : goal.returns-then-self-eq0
-returns-then-self-eq0 c = val-zero ∙ sym (ap (λ (x : F). x ⊙ val c.args.other) (val-is-zero _ c.if-self-eq0.true) ∙ zero-⊙ _)
+returns-then-self-eq0 c =
+    val-zero ∙ sym (ap (λ (x : F). x ⊙ val c.args.other) (val-is-zero _ c.if-self-eq0.true) ∙ zero-⊙ _)
 
 pub returns-then-other-eq0 : goal.returns-then-other-eq0
 returns-then-other-eq0 c =

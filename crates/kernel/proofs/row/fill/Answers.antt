@@ -34,7 +34,8 @@ pub returns : goal.returns
 returns c =
     let end = c.loop-w in
     let given = c.args in
-    let e : end.w ≡ length given.row.now = omega (arith, end.invariant.most, c.loop-w-test.false, end.invariant.long) in record {
+    let e : end.w ≡ length given.row.now = omega (arith, end.invariant.most, c.loop-w-test.false, end.invariant.long)
+    in record {
       entries = end.invariant.is ∙ ap (λ k. cut k (products (of given.c))) e;
       next = λ h. end.invariant.top (omega arith)
           ∙ ap (λ k. of k ⊙ of given.c) e;

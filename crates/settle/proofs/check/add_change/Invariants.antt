@@ -9,7 +9,8 @@ use Rattle.settle.proofs.check.add_change.Given as goal
 
 abbrev pub invariant-loop-j : goal.invariant-loop-j
 invariant-loop-j l =
-    (l.j ≤ l.m) × (length l.to ≡ length l.initial.to) × (l.e.0 < 255) × (pow α l.e.0 ≡ pow α l.initial.e.0 ⊙ pow (X l.p) l.j)
+    (l.j ≤ l.m) × (length l.to ≡ length l.initial.to) × (l.e.0 < 255)
+    × (pow α l.e.0 ≡ pow α l.initial.e.0 ⊙ pow (X l.p) l.j)
     × (bytes l.to ≡ bytes l.initial.to ⊞ K (pow α l.initial.e.0) ⊠ cut l.j (pow (X l.p)))
 
 abbrev pub decreases-loop-j : goal.decreases-loop-j

@@ -12,7 +12,8 @@ returns-then-is_zero c =
     (sym (if_pos (y ≟ 𝟎) z _ _), no_change _ _ y z)
 
 pub add_change-requires : goal.add_change-requires
-add_change-requires c = (c.requires.0, c.requires.2, is_zero_false _ (sym c.is_zero.ensures ∙ c.if-is_zero.false), search rules)
+add_change-requires c =
+    (c.requires.0, c.requires.2, is_zero_false _ (sym c.is_zero.ensures ∙ c.if-is_zero.false), search rules)
 
 pub returns : goal.returns
 returns c =

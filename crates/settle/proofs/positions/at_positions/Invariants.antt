@@ -9,7 +9,8 @@ use Rattle.settle.proofs.positions.at_positions.Given as goal
 
 abbrev pub invariant-loop-p : goal.invariant-loop-p
 invariant-loop-p l =
-    (l.p ≤ 85) × (symbols l.e ≡ terms (W l.p) (symbols l.initial.e)) × Placed l.p (λ q. value l.k (symbols l.initial.e) (W q)) l.out
+    (l.p ≤ 85) × (symbols l.e ≡ terms (W l.p) (symbols l.initial.e))
+    × Placed l.p (λ q. value l.k (symbols l.initial.e) (W q)) l.out
 
 abbrev pub decreases-loop-p : goal.decreases-loop-p
 decreases-loop-p l = 85 - l.p

@@ -15,7 +15,8 @@ loop-i-init c = (
 )
 
 pub overflow_add-changed : goal.overflow_add-changed
-overflow_add-changed c = record { fits = omega (arith, c.loop-i.invariant.2, c.changes-changed.ensures.small, c.requires.0) }
+overflow_add-changed c =
+    record { fits = omega (arith, c.loop-i.invariant.2, c.changes-changed.ensures.small, c.requires.0) }
 
 pub overflow_add-bits : goal.overflow_add-bits
 overflow_add-bits c =

@@ -8,7 +8,8 @@ use Rattle.stages.proofs.subword.correct.Given as goal
 
 abbrev pub invariant-loop-q : goal.invariant-loop-q
 invariant-loop-q l =
-    (l.q ≤ l.n) × (length l.block ≡ length l.initial.block) × (bytes l.block ≡ bytes l.initial.block ⊞ zpow l.a ⊠ cut l.q (values l.pattern))
+    (l.q ≤ l.n) × (length l.block ≡ length l.initial.block)
+    × (bytes l.block ≡ bytes l.initial.block ⊞ zpow l.a ⊠ cut l.q (values l.pattern))
     × (l.bits ≡ bit_weight l.q (values l.pattern))
 
 abbrev pub decreases-loop-q : goal.decreases-loop-q

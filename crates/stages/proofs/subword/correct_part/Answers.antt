@@ -46,7 +46,8 @@ loop-q-preserved c =
     let test = sym c.is_zero.ensures in
     elim c.if-not-is_zero.branch [
       | then-not-is_zero w ↦
-          let sum = counted-one _ now.q _ e now.invariant.4 (w.change-bits.ensures.bits ∙ ap (λ x. ones (byte x)) (sym is)) in (
+          let sum = counted-one _ now.q _ e now.invariant.4 (w.change-bits.ensures.bits
+          ∙ ap (λ x. ones (byte x)) (sym is)) in (
             omega arith,
             omega arith,
             ap length w.block-is ∙ search rules ∙ now.invariant.2,

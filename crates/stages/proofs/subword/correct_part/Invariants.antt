@@ -9,7 +9,8 @@ use Rattle.stages.proofs.subword.correct_part.Given as goal
 abbrev pub invariant-loop-q : goal.invariant-loop-q
 invariant-loop-q l =
     (l.from ≤ l.q) × (l.q ≤ l.to) × (length l.block ≡ length l.initial.block)
-    × (bytes l.block ⊞ zpow l.a ⊠ cut l.from (values l.pattern) ≡ bytes l.initial.block ⊞ zpow l.a ⊠ cut l.q (values l.pattern))
+    × (bytes l.block ⊞ zpow l.a ⊠ cut l.from (values l.pattern) ≡ bytes l.initial.block ⊞ zpow l.a ⊠ cut l.q (values
+    l.pattern))
     × (l.bits + bit_weight l.from (values l.pattern) ≡ bit_weight l.q (values l.pattern))
 
 abbrev pub decreases-loop-q : goal.decreases-loop-q

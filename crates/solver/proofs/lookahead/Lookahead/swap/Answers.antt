@@ -26,6 +26,7 @@ returns c =
     let Δ1 = sym (poly-at given.self.delta 1 (omega arith)) in
     let B = sym (below-cut_eq 49 m.Λ (below-poly _)) in
     let k = c.next_length-length.ensures in
-    let Θ = c.add_multiple-theta.ensures ∙ (λ j. over j ⊞ K (s1 j) ⊠ m.Λ) ∙ cut-swap-Θ m (below-poly _) (below-poly _) _ in
+    let Θ = c.add_multiple-theta.ensures ∙ (λ j. over j ⊞ K (s1 j) ⊠ m.Λ)
+    ∙ cut-swap-Θ m (below-poly _) (below-poly _) _ in
     let θS = c.two_products-theta_s.ensures ∙ (λ j. s3 j ⊙ Δ1 j ⊕ m.g1 ⊙ Λ0 j) in
     c.step.ensures ∙ λ i. stepped given.r (row given.s) m (B i) (Δ0 i) (k i) (Θ i) (θS i)
