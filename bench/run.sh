@@ -23,11 +23,12 @@ needs() {
 
 needs libfec-dev fec.h
 needs libitpp-dev itpp/comm/bch.h
-rt staticlib gii > /dev/null
-cc -O2 -Wall -Iinclude bench/bench.c target/staticlib/libgii.a -lfec -o target/bench
-c++ -O2 -Wall -Iinclude bench/binary.cc target/staticlib/libgii.a -litpp -o target/binary
-rt staticlib bench_products > /dev/null
-cc -O2 -Wall bench/products.c target/staticlib/libbench_products.a -o target/products
+mkdir -p target
+(cd crates/gii && rt lib) > /dev/null
+cc -O2 -Wall -Iinclude bench/bench.c crates/gii/out/libgii.a -lfec -o target/bench
+c++ -O2 -Wall -Iinclude bench/binary.cc crates/gii/out/libgii.a -litpp -o target/binary
+(cd crates/bench_products && rt lib) > /dev/null
+cc -O2 -Wall bench/products.c crates/bench_products/out/libbench_products.a -o target/products
 target/bench
 echo
 target/binary

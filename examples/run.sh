@@ -9,9 +9,9 @@ for tool in rt cc rustc; do
 done
 built=target/examples
 mkdir -p "$built"
-rt staticlib gii > "$built/staticlib.log" 2>&1 || { cat "$built/staticlib.log"; exit 1; }
-cc -std=c99 -Wall -Wextra -Werror -O2 -I include examples/c/main.c target/staticlib/libgii.a -o "$built/c"
-rustc --edition 2021 -D warnings -O examples/rust/main.rs -L native=target/staticlib -l static=gii -o "$built/rust"
+(cd crates/gii && rt lib) > "$built/staticlib.log" 2>&1 || { cat "$built/staticlib.log"; exit 1; }
+cc -std=c99 -Wall -Wextra -Werror -O2 -I include examples/c/main.c crates/gii/out/libgii.a -o "$built/c"
+rustc --edition 2021 -D warnings -O examples/rust/main.rs -L native=crates/gii/out -l static=gii -o "$built/rust"
 for program in c rust; do
     "$built/$program" > "$built/$program.out" || { echo "examples/$program: ended with status $?"; exit 1; }
     diff examples/expected "$built/$program.out" || { echo "examples/$program: printed something else"; exit 1; }

@@ -4,8 +4,8 @@
  * docs/FORMAT.md defines blocks and answers; its clauses are cited here. The functions are those of the crate `gii`,
  * which is proved to keep the promises below for every input: crates/gii/src/lib.rt states them,
  * crates/gii/specs/Definition.antt says what they mean. The inline functions at the end are no part of that: they
- * only take apart what was returned. Link the static library that `rt staticlib gii` writes,
- * target/staticlib/libgii.a, for x86-64 Linux: less than 100 KiB of code and constants, which ask for memcpy and memset
+ * only take apart what was returned. Link the static library that `rt lib` writes in the folder crates/gii,
+ * crates/gii/out/libgii.a, for x86-64 Linux: less than 128 KiB of code and constants, which ask for memcpy and memset
  * and nothing else.
  *
  * Buffers. Each one is a pointer and the number of its bytes. Any number is allowed: a wrong one is refused by number
@@ -14,7 +14,7 @@
  * another buffer of the same call; those that are only read may. A call that refuses changes no byte of any buffer.
  *
  * Nothing is kept between calls and nothing is allocated, so that threads may call at the same time. A call needs less
- * than 80 KiB of stack (measured, not proved: 66 KiB in gii_decode).
+ * than 80 KiB of stack (measured, not proved: 74 KiB in gii_read).
  *
  * The seven bytes of a profile are m (how many strips), v (how many nested sums), n (bytes of a strip) and t0, t1, t2,
  * t3 (strengths). A block has m x n bytes, its strips one after the other; each strip begins with its check bytes, and
