@@ -3,8 +3,8 @@
 -- Proved: a read of some bytes leaves the streams as they are (after-some), and one of none marks that a read failed
 -- (after-failed) or that the input has ended (after-ended); a read is marked after its bytes are added (reads-one), and
 -- why a call failed may be told before they are (told_took, told_gave). An array is filled read by read (took-none,
--- fill_more), until nothing comes (fill_none) or it is full (fill-all), and a text is written write by write (gave-none,
--- write-more), until nothing is taken (write-none) or all is (write-whole).
+-- fill_more), until nothing comes (fill_none) or it is full (fill-all), and a text is written write by write
+-- (gave-none, write-more), until nothing is taken (write-none) or all is (write-whole).
 use Rattle.std.specs.Prelude.{◌≡◌, ℕ, ◌+◌, ◌-◌, ◌<◌, ◌≤◌, true, List, [], ◌++◌, length, take, drop, refl}
 use Rattle.std.proofs.Common.{sym, ap, ◌∙◌, subst, true≢false, append-nil, append_assoc, arith, length-drop}
 use Rattle.std.proofs.Common.{length-take-le, take_all, take-take, take-add, take_at}
