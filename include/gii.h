@@ -145,7 +145,7 @@ static inline const char *gii_message(uint8_t number) {
     case GII_E_NESTED: return "the number of nested sums is above 3, or not below the number of strips";
     case GII_E_STRENGTHS: return "the strengths are not in order";
     case GII_E_EQUAL_STRENGTHS: return "two strengths are equal; such blocks are read, and no longer written";
-    case GII_E_LENGTH: return "a strip has too few bytes for its strength, or a binary one none or more than 255";
+    case GII_E_LENGTH: return "a strip has too few bytes for its strength";
     case GII_E_FIRST_ROOT: return "the exponent of the first root is 255";
     case GII_E_INPUT_BYTES: return "the input has the wrong size";
     case GII_E_OUTPUT_BYTES: return "the output has the wrong size";

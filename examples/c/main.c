@@ -1,5 +1,5 @@
-/* Writes a block, damages it, reads it and its data back, fetches a strip and reads a binary strip. ../rust/main.rs is
- * the same program; ../expected is what both print. */
+/* Writes a block, damages it, reads it and its data back and fetches a strip. ../rust/main.rs is the same program;
+ * ../expected is what both print. */
 #include <stdio.h>
 #include <stdlib.h>
 #include <string.h>
@@ -92,19 +92,6 @@ int main(void) {
     printf("refused %d: a block with equal strengths is not written; stored ones have %zu data bytes\n",
            gii_encode(equal, sizeof equal, data, 14, written, 24), gii_data_size(equal, sizeof equal));
     printf("refused %d: no profile, but no block either\n", gii_decode(NULL, 0, NULL, 0, NULL, 0, GII_PLAIN, NULL, 0));
-
-    /* A binary strip needs no profile: three wrong bits are mended, four are not. */
-    static const uint8_t bits[] = {1, 0, 1, 0, 1, 1, 0, 1, 1, 0, 0, 0, 0, 1, 0, 1, 1, 1, 0, 1, 1, 1, 0, 1, 1};
-    uint8_t strip[sizeof bits], mended[sizeof bits];
-    memcpy(strip, bits, sizeof bits);
-    strip[0] ^= 1;
-    strip[9] ^= 1;
-    strip[24] ^= 1;
-    number = gii_decode_binary(strip, sizeof strip, mended, sizeof mended);
-    printf("binary strip %d: %s\n", number, memcmp(mended, bits, sizeof bits) == 0 ? "mended" : "not mended");
-    strip[3] ^= 1;
-    number = gii_decode_binary(strip, sizeof strip, mended, sizeof mended);
-    printf("refused %d: %s\n", number, gii_message((uint8_t)number));
 
     free(data);
     free(written);

@@ -1,5 +1,5 @@
-// Writes a block, damages it, reads it and its data back, fetches a strip and reads a binary strip. ../c/main.c is the
-// same program; ../expected is what both print.
+// Writes a block, damages it, reads it and its data back and fetches a strip. ../c/main.c is the same program;
+// ../expected is what both print.
 
 /// The functions of include/gii.h, which says what they promise. Each slice is a pointer and a length.
 mod sys {
@@ -48,7 +48,6 @@ mod sys {
             block_size: usize,
             i: usize,
         ) -> usize;
-        pub fn gii_decode_binary(strip: *const u8, strip_size: usize, out: *mut u8, out_size: usize) -> u8;
     }
 }
 
@@ -135,10 +134,6 @@ mod gii {
             }
             number => Err(number),
         }
-    }
-
-    pub fn decode_binary(strip: &[u8], out: &mut [u8]) -> u8 {
-        unsafe { sys::gii_decode_binary(strip.as_ptr(), strip.len(), out.as_mut_ptr(), out.len()) }
     }
 }
 
@@ -245,16 +240,4 @@ fn main() {
     if let Err(refusal) = gii::decode(&[], &[], &mut [], gii::PLAIN, &mut []) {
         println!("refused {}: no profile, but no block either", refusal.number);
     }
-    // A binary strip needs no profile: three wrong bits are mended, four are not.
-    let bits = [1, 0, 1, 0, 1, 1, 0, 1, 1, 0, 0, 0, 0, 1, 0, 1, 1, 1, 0, 1, 1, 1, 0, 1, 1];
-    let mut strip = bits;
-    for p in [0, 9, 24] {
-        strip[p] ^= 1;
-    }
-    let mut mended = [0; 25];
-    let number = gii::decode_binary(&strip, &mut mended);
-    println!("binary strip {number}: {}", if mended == bits { "mended" } else { "not mended" });
-    strip[3] ^= 1;
-    let number = gii::decode_binary(&strip, &mut mended);
-    println!("refused {number}: a binary strip has more than three wrong bits");
 }
