@@ -1,5 +1,5 @@
-/* Reads a binary strip, which needs no profile: three wrong bits are mended, four are not. ../rust/binary.rs is the same
- * program; ../expected_binary is what both print. */
+/* Reads a binary strip, which needs no profile: three wrong bits are mended, four are not. ../rust/binary.rs is the
+ * same program; ../expected_binary is what both print. */
 #include <stdio.h>
 #include <string.h>
 
