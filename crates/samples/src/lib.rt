@@ -1,3 +1,3 @@
-// Theory only: the proved samples stand in specs/.
+// Theory only: the samples stand in specs/, and that they are right in proofs/.
 
 #![tactic(auto)]

@@ -2,7 +2,7 @@
 --
 --   Trace s c o   where the streams are s, c was read and o was written
 --
--- The contracts of the C library say how many bytes a call moves, and not which; so all that can be said here is that c
+-- The contracts of the library say how many bytes a call moves, and not which; so all that can be said here is that c
 -- and o have as many bytes as were moved. Nobody can open Trace. It is had where the streams are opened (trace_open),
 -- and goes on where they change (trace-same), a read puts bytes into an array (trace_took) and a write takes bytes
 -- (trace_gave): src/lib.rt uses these at the calls alone, and whoever holds a Trace has it from there.

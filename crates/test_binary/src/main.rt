@@ -2,7 +2,7 @@
 // prints a line for each:
 //
 //     word SIZE, output size | its number | the output, which held 170 everywhere before
-//     solve S_0 S_2 S_4 | Λ | typeof.x.B | Δ | Θ | γ, L_Λ, L_B + 1
+//     solve S_0 S_2 S_4 | Λ | x·B | Δ | Θ | γ, L_Λ, L_B + 1
 //
 // `stdout` holds the same lines from an independent model, which iterates where we have formulas.
 //
