@@ -24,11 +24,13 @@ needs() {
 needs libfec-dev fec.h
 needs libitpp-dev itpp/comm/bch.h
 mkdir -p target
-(cd crates/gii && rt lib) > /dev/null
-cc -O2 -Wall -Iinclude bench/bench.c crates/gii/out/libgii.a -lfec -o target/bench
-c++ -O2 -Wall -Iinclude bench/binary.cc crates/gii/out/libgii.a -litpp -o target/binary
-(cd crates/bench_products && rt lib) > /dev/null
-cc -O2 -Wall bench/products.c crates/bench_products/out/libbench_products.a -o target/products
+(cd crates/gii_c && rt lib) > /dev/null
+cp crates/gii_c/out/libgii_c.a target/libgii.a
+cc -O2 -Wall -Iinclude bench/bench.c target/libgii.a -lfec -o target/bench
+c++ -O2 -Wall -Iinclude bench/binary.cc target/libgii.a -litpp -o target/binary
+(cd crates/bench_products_c && rt lib) > /dev/null
+cp crates/bench_products_c/out/libbench_products_c.a target/libbench_products.a
+cc -O2 -Wall bench/products.c target/libbench_products.a -o target/products
 target/bench
 echo
 target/binary

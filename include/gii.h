@@ -3,10 +3,10 @@
  *
  * docs/FORMAT.md defines blocks and answers; its clauses are cited here. The functions are those of the crate `gii`,
  * which is proved to keep the promises below for every input: crates/gii/src/lib.rt states them,
- * crates/gii/specs/Definition.antt says what they mean. The inline functions at the end are no part of that: they
- * only take apart what was returned. Link the static library that `rt lib` writes in the folder crates/gii,
- * crates/gii/out/libgii.a, for x86-64 Linux: less than 128 KiB of code and constants, which ask for memcpy and memset
- * and nothing else.
+ * crates/gii/specs/Definition.antt says what they mean. The crate `gii_c` exports them, and is proved to promise the
+ * same. The inline functions at the end are no part of that: they only take apart what was returned. `rt lib` in the
+ * folder crates/gii_c writes the static library out/libgii_c.a, which callers link as libgii.a, for x86-64 Linux: less
+ * than 128 KiB of code and constants, which ask for memcpy and memset and nothing else.
  *
  * Buffers. Each one is a pointer and the number of its bytes. Any number is allowed: a wrong one is refused by number
  * and does no harm. The pointer must be to that many bytes that may be read (and written, where it is not const); a

@@ -1,5 +1,6 @@
-// For the benchmark: products by one value in three ways, exported to C. By a row of 256 products, by half-byte tables,
-// and by the bits of the other factor, with no table. Each call makes the tables that it needs, and promises the same.
+// For the benchmark: products by one value in three ways. By a row of 256 products, by half-byte tables, and by the
+// bits of the other factor, with no table. Each call makes the tables that it needs, and promises the same. The crate
+// bench_products_c exports them to C.
 #![tactic(auto)]
 
 ghost use Rattle.std.specs.Prelude.{◌≡◌, length};

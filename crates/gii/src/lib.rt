@@ -1,6 +1,6 @@
 // The codec for C and for Rust: plain numbers and lent bytes, each slice a pointer and a length. include/gii.h says the
-// same to a C compiler. What the promises speak of stands in specs/Definition.antt and specs/NumbersDefinition.antt,
-// and in profile's specs/LayoutDefinition.antt.
+// same to a C compiler, and the crate gii_c exports these functions. What the promises speak of stands in
+// specs/Definition.antt and specs/NumbersDefinition.antt, and in profile's specs/LayoutDefinition.antt.
 #![tactic(auto)]
 
 mod numbers;
