@@ -6,12 +6,13 @@
 --   Explained n S0 S2 S4 x y z   x, y and z are within n, and their odd powers add up to these syndromes
 --   Changes n S0 S2 S4    no change, or one, two or three different locations that explain these syndromes
 --   Tests n S0 S2 S4 x y z b     b says whether x, y and z do
---   Locates n S0 S2 S4 f x y z   where f is true, x, y and z do; where it is false, no changes do
-use Rattle.std.specs.Prelude.{ℕ, ◌<◌, ◌≡◌, ◌≢◌, Bool, true, false}
+--   Locates n S0 S2 S4 o   the locations in o do; where it has none, no changes do
+use Rattle.std.specs.Prelude.{ℕ, ◌<◌, ◌≡◌, ◌≢◌, Bool, true, false, Option, Some, None}
 use Rattle.std.proofs.Math.Logic.{ite}
-use Rattle.field.specs.Field.{F, 𝟎, ◌⊕◌, ◌≟◌, pow, log}
+use Rattle.field.specs.Field.{F, 𝟎, ◌⊕◌, ◌≟◌, pow, log, val}
 use Rattle.series.specs.Series.{Series, O, ◌⊞◌}
 use Rattle.series.specs.Shift.{zpow}
+use Rattle.binary.specs.declared.locations.Locations.{Locations}
 
 abbrev pub Within : ℕ → F → Type 0
 Within n x = x ≢ 𝟎 → log x < n
@@ -41,6 +42,6 @@ pub record Tests (n : ℕ) (S0 S2 S4 x y z : F) (b : Bool) : Type 0 where
   pub sound : b ≡ true → Explained n S0 S2 S4 x y z
   pub complete : b ≡ false → ¬ Explained n S0 S2 S4 x y z
 
-pub record Locates (n : ℕ) (S0 S2 S4 : F) (b : Bool) (x y z : F) : Type 0 where
-  pub sound : b ≡ true → Explained n S0 S2 S4 x y z
-  pub complete : b ≡ false → ¬ Changes n S0 S2 S4
+abbrev pub Locates : ℕ → F → F → F → Option Locations → Type 0
+Locates n S0 S2 S4 (Some l) = Explained n S0 S2 S4 (val l.0) (val l.1) (val l.2)
+Locates n S0 S2 S4 None = ¬ Changes n S0 S2 S4

@@ -5,13 +5,14 @@
 --                    of capability 3
 --   answer n y       the word that fits; none if there is none
 --   number_of q      the number of a refusal; answer_number a: 0, or that of the refusal
---   Result           what reading comes to: the word that is answered, or a refusal
+--   Read             what reading comes to: the word that is answered, or a refusal
 --   bits? y          whether the bytes y are 0 or 1
 --   asked b q r      r, unless the question b is answered by no
 --   reading y o      what reading the bytes y into an output of o bytes comes to: the questions, then the answer
 --   answer_to r      what is answered
 --   word_in r o      what the output holds in the end, o being what it held
 use Rattle.std.specs.Prelude.{ℕ, ◌≤◌, ◌<◌, ◌≡◌, ◌⊎◌, Bool, true, cond, ◌&&◌, List, [], ◌∷◌, map, leb, ltb, eqb, length}
+use Rattle.std.specs.Prelude.{Result, Ok, Err}
 use Rattle.std.proofs.Common.{inl, inr, ⊎_elim}
 use Rattle.std.proofs.Math.Logic.Dec
 use Rattle.std.proofs.Math.Option.{Option, none, some}
@@ -25,8 +26,6 @@ use Rattle.series.specs.First.{first}
 use Rattle.code.specs.Word.{syndrome, InCode}
 use Rattle.binary.specs.declared.Refusal.{Refusal}
 use Rattle.binary.specs.declared.Refusal.TheVariants.{Length, OutputSize, NotBinary, Uncorrectable}
-use Rattle.binary.specs.declared.Answer.{Answer}
-use Rattle.binary.specs.declared.Answer.TheVariants.{Accepted, Refused}
 
 -- ---- what is answered
 
@@ -73,37 +72,37 @@ number_of NotBinary = 16
 number_of Uncorrectable = 17
 
 -- 0 says that every question was answered by yes
-abbrev pub answer_number : Answer → ℕ
-answer_number Accepted = 0
-answer_number (Refused q) = number_of q
+abbrev pub answer_number : Result (Unit {0}) Refusal → ℕ
+answer_number (Ok done) = 0
+answer_number (Err q) = number_of q
 
-pub data Result : Type 0 where
-  decoded : List F → Result
-  refused : Refusal → Result
+-- what reading comes to
+abbrev pub Read : Type 0
+Read = Result (List F) Refusal
 
 abbrev pub bits? : List ℕ → Bool
 bits? [] = true
 bits? (x ∷ l) = ltb x 2 && bits? l
 
-abbrev pub asked : Bool → Refusal → Result → Result
-asked b q r = cond b r (refused q)
+abbrev pub asked : Bool → Refusal → Read → Read
+asked b q r = cond b r (Err q)
 
 -- FORMAT 11.2: is there a strip that fits?
-abbrev pub found : Option (List F) → Result
-found none = refused Uncorrectable
-found (some w) = decoded w
+abbrev pub found : Option (List F) → Read
+found none = Err Uncorrectable
+found (some w) = Ok w
 
-unfoldable pub reading : List ℕ → ℕ → Result
+unfoldable pub reading : List ℕ → ℕ → Read
 reading y o =
     asked (ltb 0 (length y) && leb (length y) 255) Length
     (asked (eqb o (length y)) OutputSize
     (asked (bits? y) NotBinary
     (found (answer (length y) (bytes y)))))
 
-abbrev pub answer_to : Result → Answer
-answer_to (decoded w) = Accepted
-answer_to (refused q) = Refused q
+abbrev pub answer_to : Read → Result (Unit {0}) Refusal
+answer_to (Ok w) = Ok tt
+answer_to (Err q) = Err q
 
-abbrev pub word_in : Result → List ℕ → List ℕ
-word_in (decoded w) o = map byte w
-word_in (refused q) o = o
+abbrev pub word_in : Read → List ℕ → List ℕ
+word_in (Ok w) o = map byte w
+word_in (Err q) o = o

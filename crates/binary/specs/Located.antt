@@ -3,10 +3,11 @@
 -- Proved: three values are zero exactly where the test says so (zeros_yes, zeros_no); what the test of three locations
 -- answers (tests_outside, tests-sums); what is answered to a clean word, to one whose locator is too long and to one
 -- that is put to the test (locates-clean, locates-long, locates_tested).
-use Rattle.std.specs.Prelude.{ℕ, ◌<◌, ◌≡◌, refl, Bool, true, false, ◌&&◌}
+use Rattle.std.specs.Prelude.{ℕ, ◌<◌, ◌≡◌, refl, Bool, true, false, ◌&&◌, Option, Some, None}
 use Rattle.std.proofs.Common.{sym, ap, ◌∙◌, true≢false, arith}
-use Rattle.field.specs.Field.{F, 𝟎, ◌⊕◌, ⊕_self, ⊕_assoc, ⊕-equal, ⊕-group, pow}
+use Rattle.field.specs.Field.{F, 𝟎, ◌⊕◌, ⊕_self, ⊕_assoc, ⊕-equal, ⊕-group, pow, val}
 use Rattle.field.specs.Field.{is_zero, is_zero_yes, is_zero_true}
+use Rattle.binary.specs.declared.locations.Locations.{Locations}
 use Rattle.binary.specs.Coefficients.{zero-pow}
 use Rattle.binary.specs.Algorithm.{State}
 use Rattle.binary.specs.Tables.{direct}
@@ -72,33 +73,28 @@ module _ (n : ℕ) (S0 S2 S4 x y z : F) where
 -- ---- what is located
 
 module _ (n : ℕ) (S0 S2 S4 : F) where
-  pub locates-clean : Zeros S0 S2 S4 → Locates n S0 S2 S4 true 𝟎 𝟎 𝟎
-  locates-clean (p, q, s) = record {
-    sound = λ _. record {
-      within_x = λ h. absurd (h refl);
-      within_y = λ h. absurd (h refl);
-      within_z = λ h. absurd (h refl);
-      first = simp ⊕-group (sym p);
-      third = simp (zero-pow 3 (omega arith), ⊕-group) (sym q);
-      fifth = simp (zero-pow 5 (omega arith), ⊕-group) (sym s);
-    };
-    complete = λ e. absurd (true≢false e);
+  pub locates-clean : (l : Locations) → Zeros (val l.0) (val l.1) (val l.2) → Zeros S0 S2 S4
+      → Locates n S0 S2 S4 (Some l)
+  locates-clean l (x, y, z) (p, q, s) = record {
+    within_x = λ h. absurd (h x);
+    within_y = λ h. absurd (h y);
+    within_z = λ h. absurd (h z);
+    first = rw (x, y, z) (simp ⊕-group (sym p));
+    third = rw (x, y, z) (simp (zero-pow 3 (omega arith), ⊕-group) (sym q));
+    fifth = rw (x, y, z) (simp (zero-pow 5 (omega arith), ⊕-group) (sym s));
   }
 
   -- the state is that of the direct formulas
-  module _ (some : ¬ Zeros S0 S2 S4) (s : State) (is : s ≡ direct S0 S2 S4) (x y z : F) where
-    pub locates-long : 3 < s.LΛ → Locates n S0 S2 S4 false x y z
-    locates-long l = record {
-      sound = λ e. absurd (true≢false (sym e));
-      complete = λ _ c.
-          let h = (changes-found n S0 S2 S4 some c).short in
-          let k : s.LΛ ≡ (direct S0 S2 S4).LΛ = ap (λ (t : State). t.LΛ) is in
-          absurd (omega (arith, h, k));
-    }
+  module _ (some : ¬ Zeros S0 S2 S4) (s : State) (is : s ≡ direct S0 S2 S4) where
+    pub locates-long : 3 < s.LΛ → Locates n S0 S2 S4 None
+    locates-long l c =
+        let h = (changes-found n S0 S2 S4 some c).short in
+        let k : s.LΛ ≡ (direct S0 S2 S4).LΛ = ap (λ (t : State). t.LΛ) is in
+        absurd (omega (arith, h, k))
 
-    pub locates_tested : (b : Bool) → Finds s.Λ s.LΛ x y z → Tests n S0 S2 S4 x y z b
-        → Locates n S0 S2 S4 b x y z
-    locates_tested b f t = record {
-      sound = t.sound;
-      complete = λ e c. t.complete e ((changes-found n S0 S2 S4 some c).explained x y z (rw (← is) f));
-    }
+    pub locates_tested : (b : Bool) (l : Locations) (r : Option Locations) → (b ≡ true → r ≡ Some l)
+        → (b ≡ false → r ≡ None) → Finds s.Λ s.LΛ (val l.0) (val l.1) (val l.2)
+        → Tests n S0 S2 S4 (val l.0) (val l.1) (val l.2) b → Locates n S0 S2 S4 r
+    locates_tested true l r i j f t = rw (i refl) (t.sound refl)
+    locates_tested false l r i j f t = rw (j refl) (λ c.
+        t.complete refl ((changes-found n S0 S2 S4 some c).explained _ _ _ (rw (← is) f)))

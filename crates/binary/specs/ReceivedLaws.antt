@@ -4,14 +4,14 @@
 --   table_of x        those of the powers of x below 255, then 0
 --   Masking w l p    the first p symbols of w are masks in l, which is zero from there on
 --
--- Proved: that table is one of powers (table_of-at), and the field's own is that of α (power_table-of); one symbol more
--- is a bit, or not (bits?-more); a byte that is a bit is below two (bit-small); masks one by one (masking-none,
--- masking-more, masking-all); one symbol more has its part in the value (part-more), and two parts are all of it
--- (value_parts).
+-- Proved: that table is one of powers (table_of-at), and the field's own is that of α (power_table-of); the greatest
+-- symbol tells whether all are bits (bits?-greatest); a byte that is a bit is below two (bit-small); masks one by one
+-- (masking-none, masking-more, masking-all); one symbol more has its part in the value (part-more), and two parts are
+-- all of it (value_parts).
 use Rattle.std.specs.Prelude.{ℕ, zero, suc, ◌+◌, ◌*◌, ◌≤◌, ◌<◌, max, ◌≡◌, refl, Bool, true, false, ◌&&◌, List, [], ◌∷◌}
-use Rattle.std.specs.Prelude.{◌++◌, ltb, length, get_or, set, replicate, take}
+use Rattle.std.specs.Prelude.{◌++◌, ltb, length, get_or, set, replicate, fold}
 use Rattle.std.proofs.Common.{sym, ap, ap₂, ◌∙◌, ⊎_elim, arith, add-one, ltb-true, ltb-false, lt-ltb, le-ltb}
-use Rattle.std.proofs.Common.{length-set, take-suc, get_or-set_same, get_or-set_other}
+use Rattle.std.proofs.Common.{length-set, get_or-set_same, get_or-set_other}
 use Rattle.std.proofs.Math.Logic.{by_cases}
 use Rattle.std.proofs.Math.Bool.{and-true, and_assoc}
 use Rattle.std.proofs.Math.Decide.{ℕ_discrete, dec_lt}
@@ -61,10 +61,6 @@ power_table-of k h = ap of (power_table-at k h) ∙ of-byte (pow α k)
 
 -- ---- whether symbols are bits
 
-bits?-last : (l : List ℕ) (x : ℕ) → bits? (l ++ (x ∷ [])) ≡ bits? l && ltb x 2
-bits?-last [] x = and-true (ltb x 2)
-bits?-last (y ∷ l) x = ap (λ b. ltb y 2 && b) (bits?-last l x) ∙ sym (and_assoc (ltb y 2) (bits? l) (ltb x 2))
-
 ltb-max : (m x n : ℕ) → ltb (max m x) n ≡ ltb m n && ltb x n
 ltb-max m x n = go (ltb m n) (ltb x n) refl refl
   where
@@ -78,12 +74,14 @@ bit-small x h =
     ⊎_elim (λ z. let e = of_inj x 0 h (omega arith) (z ∙ sym of_zero) in omega (arith, e))
     (λ z. let e = of_inj x 1 h (omega arith) (z ∙ sym of_one) in omega (arith, e))
 
--- one symbol more
-pub bits?-more : (l : List ℕ) (p m : ℕ) → p < length l → ltb m 2 ≡ bits? (take p l)
-    → ltb (max m (get_or l p 0)) 2 ≡ bits? (take (p + 1) l)
-bits?-more l p m h e =
-    let more : take (p + 1) l ≡ take p l ++ (get_or l p 0 ∷ []) = rw add-one (take-suc l p 0 h) in
-    ltb-max m _ 2 ∙ ap (λ b. b && ltb (get_or l p 0) 2) e ∙ sym (ap bits? more ∙ bits?-last (take p l) _)
+-- the greatest symbol tells
+pub bits?-greatest : (l : List ℕ) → ltb (fold max 0 l) 2 ≡ bits? l
+bits?-greatest l = go 0 l
+  where
+    go : (m : ℕ) (l : List ℕ) → ltb (fold max m l) 2 ≡ ltb m 2 && bits? l
+    go m [] = sym (and-true (ltb m 2))
+    go m (x ∷ l) =
+        go (max m x) l ∙ ap (λ b. b && bits? l) (ltb-max m x 2) ∙ and_assoc (ltb m 2) (ltb x 2) (bits? l)
 
 -- ---- masks
 

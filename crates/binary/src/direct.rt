@@ -8,6 +8,7 @@ ghost use Rattle.binary.specs.Tables.{branch as Branch, v000 as V000, v001 as V0
 ghost use Rattle.binary.specs.Tables.{v011 as V011, v101 as V101, v110 as V110, direct};
 ghost use Rattle.binary.specs.Solved.{state_of, Shared};
 
+use crate::received::Syndromes;
 use field::Gf;
 use kernel::product;
 
@@ -42,6 +43,9 @@ struct Terms {
     phi: Gf,
 }
 
+// The coefficient of a term that is not there.
+const O: Gf = Gf::ZERO;
+
 // a + x y
 fn plus_product(a: Gf, x: Gf, y: Gf) -> Gf
     ensures { val result ≡ val a ⊕ val x ⊙ val y }
@@ -50,9 +54,10 @@ fn plus_product(a: Gf, x: Gf, y: Gf) -> Gf
 }
 
 // What the formulas share, found once.
-fn prepare(s0: Gf, s2: Gf, s4: Gf) -> Terms
-    ensures { Shared (val s0) (val s2) (val s4) result }
+fn prepare(s: Syndromes) -> Terms
+    ensures { Shared (val s.s0) (val s.s2) (val s.s4) result }
 {
+    let Syndromes { s0, s2, s4 } = s;
     let square = product(s0, s0);
     let cube = product(s0, square);
     let sixth = product(cube, cube);
@@ -60,92 +65,68 @@ fn prepare(s0: Gf, s2: Gf, s4: Gf) -> Terms
     let both = product(s0, s4);
     let part = plus_product(both.sum(sixth), s2, cube);
     Terms {
-        s0: s0,
-        s2: s2,
-        s4: s4,
-        square: square,
-        cube: cube,
-        sixth: sixth,
-        square2: square2,
+        s0,
+        s2,
+        s4,
+        square,
+        cube,
+        sixth,
+        square2,
         d1: s2.sum(cube),
-        both: both,
+        both,
         phi: part.sum(square2),
     }
 }
 
 // The three zero tests as the number of a branch: its bits say in which iterations the algorithm takes its second
-// branch. With S_0 zero they are 101 or 110; 100 and 111 never occur.
+// branch. With S_0 zero they are 101 or 110; 100 and 111 never occur. A number and no enum: the customer matches on it
+// (docs/DECISIONS.md, 73).
 fn number(first: bool, second: bool, third: bool) -> u8
     ensures { result ≡ cond first (cond second 6 5) (cond second (cond third 3 2) (cond third 1 0)) }
 {
-    if first {
-        if second {
-            return 6;
-        }
-        return 5;
+    match (first, second, third) {
+        (false, false, false) => 0,
+        (false, false, true) => 1,
+        (false, true, false) => 2,
+        (false, true, true) => 3,
+        (true, false, _) => 5,
+        (true, true, _) => 6,
     }
-    if second {
-        if third {
-            return 3;
-        }
-        return 2;
-    }
-    if third {
-        return 1;
-    }
-    0
 }
 
 // The number of the branch vector.
 fn branch(t: Terms) -> u8
     ensures { (a b c : F) → Shared a b c t → result ≡ Branch a b c }
 {
-    let x = t.s0;
-    let y = t.d1;
-    let z = t.phi;
-    number(x.is_zero(), y.is_zero(), z.is_zero())
+    number(t.s0.is_zero(), t.d1.is_zero(), t.phi.is_zero())
 }
 
 fn v000(t: Terms) -> Solved
     ensures { (a b c : F) → Shared a b c t → state_of result ≡ V000 a b c }
 {
-    let s0 = t.s0;
-    let s4 = t.s4;
-    let square = t.square;
-    let cube = t.cube;
-    let square2 = t.square2;
-    let d1 = t.d1;
-    let phi = t.phi;
-    let e = plus_product(t.both, cube, t.s2);
-    let squares = product(square, square2);
-    let x = plus_product(product(squares, d1), e, s4);
+    let e = plus_product(t.both, t.cube, t.s2);
+    let squares = product(t.square, t.square2);
+    let x = plus_product(product(squares, t.d1), e, t.s4);
     Solved {
         locator: [
-            product(s0, d1),
-            product(square, d1),
+            product(t.s0, t.d1),
+            product(t.square, t.d1),
             e,
-            product(s0, phi),
-            Gf::ZERO,
-            Gf::ZERO,
+            product(t.s0, t.phi),
+            O,
+            O,
         ],
-        auxiliary: [Gf::ZERO, s0, square, d1, Gf::ZERO, Gf::ZERO],
+        auxiliary: [O, t.s0, t.square, t.d1, O, O],
         delta: [
-            plus_product(x, product(square, cube), phi),
-            Gf::ZERO,
-            product(product(s0, square2), phi),
-            Gf::ZERO,
-            Gf::ZERO,
-            Gf::ZERO,
+            plus_product(x, product(t.square, t.cube), t.phi),
+            O,
+            product(product(t.s0, t.square2), t.phi),
+            O,
+            O,
+            O,
         ],
-        theta: [
-            plus_product(squares, s4, d1),
-            Gf::ZERO,
-            Gf::ZERO,
-            Gf::ZERO,
-            Gf::ZERO,
-            Gf::ZERO,
-        ],
-        gamma: phi,
+        theta: [plus_product(squares, t.s4, t.d1), O, O, O, O, O],
+        gamma: t.phi,
         length: 3,
         auxiliary_length: 3,
     }
@@ -154,42 +135,21 @@ fn v000(t: Terms) -> Solved
 fn v001(t: Terms) -> Solved
     ensures { (a b c : F) → Shared a b c t → state_of result ≡ V001 a b c }
 {
-    let s0 = t.s0;
-    let s4 = t.s4;
-    let square = t.square;
-    let cube = t.cube;
-    let square2 = t.square2;
-    let d1 = t.d1;
-    let sixth = t.sixth;
-    let h = sixth.sum(square2);
-    let x = product(product(square, square2), d1);
+    let h = t.sixth.sum(t.square2);
+    let x = product(product(t.square, t.square2), t.d1);
     Solved {
-        locator: [
-            product(s0, d1),
-            product(square, d1),
-            h,
-            Gf::ZERO,
-            Gf::ZERO,
-            Gf::ZERO,
-        ],
-        auxiliary: [Gf::ZERO, Gf::ZERO, Gf::ZERO, Gf::ONE, s0, Gf::ZERO],
-        delta: [
-            plus_product(x, h, s4),
-            Gf::ZERO,
-            Gf::ZERO,
-            Gf::ZERO,
-            Gf::ZERO,
-            Gf::ZERO,
-        ],
+        locator: [product(t.s0, t.d1), product(t.square, t.d1), h, O, O, O],
+        auxiliary: [O, O, O, Gf::ONE, t.s0, O],
+        delta: [plus_product(x, h, t.s4), O, O, O, O, O],
         theta: [
-            plus_product(s4, square, cube),
-            Gf::ZERO,
-            product(s0, square2),
-            Gf::ZERO,
-            Gf::ZERO,
-            Gf::ZERO,
+            plus_product(t.s4, t.square, t.cube),
+            O,
+            product(t.s0, t.square2),
+            O,
+            O,
+            O,
         ],
-        gamma: d1,
+        gamma: t.d1,
         length: 2,
         auxiliary_length: 4,
     }
@@ -198,31 +158,19 @@ fn v001(t: Terms) -> Solved
 fn v010(t: Terms) -> Solved
     ensures { (a b c : F) → Shared a b c t → state_of result ≡ V010 a b c }
 {
-    let s0 = t.s0;
-    let square = t.square;
-    let cube = t.cube;
-    let square2 = t.square2;
-    let both = t.both;
-    let q = both.sum(t.sixth);
+    let q = t.both.sum(t.sixth);
     Solved {
-        locator: [square, cube, Gf::ZERO, Gf::ZERO, q, Gf::ZERO],
-        auxiliary: [Gf::ZERO, s0, square, Gf::ZERO, Gf::ZERO, Gf::ZERO],
+        locator: [t.square, t.cube, O, O, q, O],
+        auxiliary: [O, t.s0, t.square, O, O, O],
         delta: [
-            plus_product(product(cube, square2), q, t.s2),
-            Gf::ZERO,
+            plus_product(product(t.cube, t.square2), q, t.s2),
+            O,
             product(q, t.s4),
-            Gf::ZERO,
-            Gf::ZERO,
-            Gf::ZERO,
+            O,
+            O,
+            O,
         ],
-        theta: [
-            product(square, square2),
-            Gf::ZERO,
-            Gf::ZERO,
-            Gf::ZERO,
-            Gf::ZERO,
-            Gf::ZERO,
-        ],
+        theta: [product(t.square, t.square2), O, O, O, O, O],
         gamma: q,
         length: 4,
         auxiliary_length: 2,
@@ -232,18 +180,13 @@ fn v010(t: Terms) -> Solved
 fn v011(t: Terms) -> Solved
     ensures { (a b c : F) → Shared a b c t → state_of result ≡ V011 a b c }
 {
-    let s0 = t.s0;
-    let s2 = t.s2;
-    let s4 = t.s4;
-    let square = t.square;
-    let cube = t.cube;
-    let x = product(cube, t.square2);
+    let x = product(t.cube, t.square2);
     Solved {
-        locator: [square, cube, Gf::ZERO, Gf::ZERO, Gf::ZERO, Gf::ZERO],
-        auxiliary: [Gf::ZERO, Gf::ZERO, Gf::ZERO, Gf::ZERO, Gf::ZERO, Gf::ONE],
-        delta: [x, Gf::ZERO, Gf::ZERO, Gf::ZERO, Gf::ZERO, Gf::ZERO],
-        theta: [s2, Gf::ZERO, s4, Gf::ZERO, Gf::ZERO, Gf::ZERO],
-        gamma: s0,
+        locator: [t.square, t.cube, O, O, O, O],
+        auxiliary: [O, O, O, O, O, Gf::ONE],
+        delta: [x, O, O, O, O, O],
+        theta: [t.s2, O, t.s4, O, O, O],
+        gamma: t.s0,
         length: 1,
         auxiliary_length: 5,
     }
@@ -252,17 +195,14 @@ fn v011(t: Terms) -> Solved
 fn v101(t: Terms) -> Solved
     ensures { (a b c : F) → Shared a b c t → state_of result ≡ V101 a b c }
 {
-    let s2 = t.s2;
-    let s4 = t.s4;
-    let square2 = t.square2;
-    let x = product(s4, s4);
-    let y = product(square2, square2);
+    let x = product(t.s4, t.s4);
+    let y = product(t.square2, t.square2);
     Solved {
-        locator: [s2, Gf::ZERO, s4, square2, Gf::ZERO, Gf::ZERO],
-        auxiliary: [Gf::ZERO, Gf::ZERO, Gf::ZERO, Gf::ONE, Gf::ZERO, Gf::ZERO],
-        delta: [x, Gf::ZERO, y, Gf::ZERO, Gf::ZERO, Gf::ZERO],
-        theta: [s4, Gf::ZERO, Gf::ZERO, Gf::ZERO, Gf::ZERO, Gf::ZERO],
-        gamma: s2,
+        locator: [t.s2, O, t.s4, t.square2, O, O],
+        auxiliary: [O, O, O, Gf::ONE, O, O],
+        delta: [x, O, y, O, O, O],
+        theta: [t.s4, O, O, O, O, O],
+        gamma: t.s2,
         length: 3,
         auxiliary_length: 3,
     }
@@ -271,13 +211,12 @@ fn v101(t: Terms) -> Solved
 fn v110(t: Terms) -> Solved
     ensures { (a b c : F) → Shared a b c t → state_of result ≡ V110 a b c }
 {
-    let s4 = t.s4;
     Solved {
-        locator: [Gf::ONE, Gf::ZERO, Gf::ZERO, Gf::ZERO, Gf::ZERO, s4],
-        auxiliary: [Gf::ZERO, Gf::ONE, Gf::ZERO, Gf::ZERO, Gf::ZERO, Gf::ZERO],
-        delta: [Gf::ZERO; TERMS],
-        theta: [Gf::ZERO; TERMS],
-        gamma: s4,
+        locator: [Gf::ONE, O, O, O, O, t.s4],
+        auxiliary: [O, Gf::ONE, O, O, O, O],
+        delta: [O; TERMS],
+        theta: [O; TERMS],
+        gamma: t.s4,
         length: 5,
         auxiliary_length: 1,
     }
@@ -285,14 +224,13 @@ fn v110(t: Terms) -> Solved
 
 // The state for these syndromes of even index, the others being squares: S_1 = S_0², S_3 = S_0⁴, S_5 = S_2². For three
 // zeros, which nobody has to solve, the formulas of branch 110 are taken too.
-pub fn solve(s0: Gf, s2: Gf, s4: Gf) -> Solved
-    ensures formulas { state_of result ≡ direct (val s0) (val s2) (val s4) }
-    ensures iterations { ¬ ((val s0 ≡ 𝟎) × (val s2 ≡ 𝟎) × (val s4 ≡ 𝟎))
-        → state_of result ≡ iterated (val s0) (val s2) (val s4) }
+pub fn solve(s: Syndromes) -> Solved
+    ensures formulas { state_of result ≡ direct (val s.s0) (val s.s2) (val s.s4) }
+    ensures iterations { ¬ ((val s.s0 ≡ 𝟎) × (val s.s2 ≡ 𝟎) × (val s.s4 ≡ 𝟎))
+        → state_of result ≡ iterated (val s.s0) (val s.s2) (val s.s4) }
 {
-    let t = prepare(s0, s2, s4);
-    let b = branch(t);
-    match b {
+    let t = prepare(s);
+    match branch(t) {
         0 => v000(t),
         1 => v001(t),
         2 => v010(t),

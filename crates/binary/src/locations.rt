@@ -14,10 +14,11 @@ use kernel::{index, product};
 
 // Three locations; zero is none.
 #[derive(Clone, Copy)]
-pub struct Locations {
-    pub a: Gf,
-    pub b: Gf,
-    pub c: Gf,
+pub struct Locations(pub Gf, pub Gf, pub Gf);
+
+impl Locations {
+    // Of no change.
+    pub const NONE: Locations = Locations(Gf::ZERO, Gf::ZERO, Gf::ZERO);
 }
 
 // At k: the least w with w² + w = k, or 0 if there is none.
@@ -78,8 +79,7 @@ fn power(x: Gf, e: usize) -> Gf
     if x.is_zero() {
         return x;
     }
-    let k = x.log();
-    Exponent(k.0 * e).power()
+    Exponent(x.log().0 * e).power()
 }
 
 // One of two different values, given their sum and their product; the other is the sum and it. With w the value over
@@ -105,45 +105,32 @@ fn one_of_three(pairs: Gf, all: Gf) -> Gf
 
 // Two locations, given their sum and their product.
 fn two(sum: Gf, both: Gf) -> Locations
-    ensures { Two (val sum) (val both) (val result.a) (val result.b) (val result.c) }
+    ensures { Two (val sum) (val both) (val result.0) (val result.1) (val result.2) }
 {
     let x = one_of_two(sum, both);
-    Locations {
-        a: x,
-        b: x.sum(sum),
-        c: Gf::ZERO,
-    }
+    Locations(x, x.sum(sum), Gf::ZERO)
 }
 
 // Three locations, given their elementary symmetric polynomials. Each of them, with `sum` added, is one of three values
 // whose sum is zero.
 fn three(sum: Gf, pairs: Gf, all: Gf) -> Locations
-    ensures { Three (val sum) (val pairs) (val all) (val result.a) (val result.b) (val result.c) }
+    ensures { Three (val sum) (val pairs) (val all) (val result.0) (val result.1) (val result.2) }
 {
     let a = product(sum, sum).sum(pairs);
     let b = product(sum, pairs).sum(all);
     let u = one_of_three(a, b);
     let v = one_of_two(u, product(b, u.inverse()));
-    Locations {
-        a: sum.sum(u),
-        b: sum.sum(v),
-        c: sum.sum(u.sum(v)),
-    }
+    Locations(sum.sum(u), sum.sum(v), sum.sum(u.sum(v)))
 }
 
 // The locations of so many changes, if the locator is theirs.
 pub fn of_locator(locator: [Gf; TERMS], length: u8) -> Locations
-    ensures { Finds (values locator) length (val result.a) (val result.b) (val result.c) }
+    ensures { Finds (values locator) length (val result.0) (val result.1) (val result.2) }
 {
-    let first = locator[0];
-    let inverse = first.inverse();
+    let inverse = locator[0].inverse();
     let sum = product(locator[1], inverse);
     if length == 1 {
-        return Locations {
-            a: sum,
-            b: Gf::ZERO,
-            c: Gf::ZERO,
-        };
+        return Locations(sum, Gf::ZERO, Gf::ZERO);
     }
     let pairs = product(locator[2], inverse);
     if length == 2 {

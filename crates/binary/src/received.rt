@@ -1,6 +1,6 @@
 // A received subword: whether its symbols are bits, and its syndromes of even index. The others are squares of these.
 // What the promises speak of stands in specs/Definition.antt and specs/Received.antt.
-ghost use Rattle.std.specs.Prelude.{ℕ, ◌*◌, ◌≤◌, ◌<◌, max, ◌≡◌, ◌&&◌, List, length};
+ghost use Rattle.std.specs.Prelude.{ℕ, ◌*◌, ◌≤◌, ◌<◌, ◌≡◌, ◌&&◌, List, length};
 ghost use Rattle.field.specs.Field.{F, ◌⊕◌, of, val, pow, is_zero};
 ghost use Rattle.series.specs.Value.{value as Value};
 ghost use Rattle.series.specs.Array.{bytes};
@@ -9,6 +9,7 @@ ghost use Rattle.binary.specs.Definition.{Bits, bits?};
 ghost use Rattle.binary.specs.Received.{PowersOf, cube, fifth, Masks};
 
 use field::Gf;
+use kernel::product;
 
 // The syndromes S_0, S_2 and S_4, or three other values that stand for such.
 #[derive(Clone, Copy)]
@@ -54,7 +55,8 @@ const FIFTHS: [u8; 256] = *b"\x01\x20\x74\x26\xb4\x03\x60\x9c\x6a\xc1\x05\xa0\xb
     \x11\x1a\x67\x7c\x3b\x33\x2e\xa9\x84\x4d\x55\x72\xe6\x91\xd7\xff\
     \x96\x37\xae\x64\x1c\xa7\x59\xef\xac\x24\xf4\xeb\x2c\xe9\x6c\x00";
 
-// The powers of α³ at the positions.
+// The powers of α³ at the positions. Each table has a function of its own, since what it promises is computed from its
+// bytes; so have those of `locations`.
 fn cubes() -> [u8; 256]
     ensures { PowersOf cube result }
 {
@@ -73,24 +75,7 @@ fn fifths() -> [u8; 256]
 pub fn is_binary(word: &[u8]) -> bool
     ensures { result ≡ bits? word.now }
 {
-    let mut most: u8 = 0;
-    let mut p: usize = 0;
-    while p < word.len() {
-        let x = word[p];
-        most = greater(most, x);
-        p = p + 1;
-    }
-    most < 2
-}
-
-// The greater of two bytes.
-fn greater(x: u8, y: u8) -> u8
-    ensures { result ≡ max x y }
-{
-    if x < y {
-        return y;
-    }
-    x
+    word.iter().fold(0, |most: u8, x| most.max(*x)) < 2
 }
 
 // A bit as a mask: 0 or 255.
@@ -107,33 +92,29 @@ fn masks(word: &[u8]) -> [u8; 256]
     ensures { Masks word.now result }
 {
     let mut out = [0u8; 256];
-    let mut p: usize = 0;
-    while p < word.len() {
-        out[p] = mask(word[p]);
-        p = p + 1;
+    for (p, bit) in word.iter().enumerate() {
+        out[p] = mask(*bit);
     }
     out
 }
 
 // What the symbols from one position to another, that one not included, have in the value of the word that the masks
 // are of, from a table of powers: a sum, with no product, sixteen at a time.
-fn part<'a>(masks: &'a [u8; 256], table: &'a [u8; 256], from: usize, to: usize) -> u8
+fn part(masks: &[u8; 256], table: &[u8; 256], from: usize, to: usize) -> u8
     requires { (from ≤ to) × (to ≤ 256) }
     ensures { (x : F) (w : List ℕ) → PowersOf x table.now → Masks w masks.now
         → of result ≡ Value to (bytes w) x ⊕ Value from (bytes w) x }
 {
-    let mut sum: u8 = 0;
-    let mut p: usize = from;
-    while p < to {
-        sum = sum ^ (masks[p] & table[p]);
-        p = p + 1;
+    let mut sum = 0u8;
+    for p in from..to {
+        sum ^= masks[p] & table[p];
     }
     sum
 }
 
 // The value at x of that word, from a table of the powers of x. It is added in two parts: in one, the compiler would
 // compare the last term with the sum before it, to know whether both are zero together, and then take one at a time.
-fn value<'a>(masks: &'a [u8; 256], table: &'a [u8; 256]) -> Gf
+fn value(masks: &[u8; 256], table: &[u8; 256]) -> Gf
     ensures { (x : F) (w : List ℕ) → PowersOf x table.now → Masks w masks.now
         → val result ≡ Value (length w) (bytes w) x }
 {
@@ -150,13 +131,10 @@ pub fn even_syndromes(word: &[u8]) -> Syndromes
         × (val result.s4 ≡ syndrome 1 (length word.now) (bytes word.now) 4) }
 {
     let bits = masks(word);
-    let first = field::powers();
-    let third = cubes();
-    let fifth = fifths();
     Syndromes {
-        s0: value(&bits, &first),
-        s2: value(&bits, &third),
-        s4: value(&bits, &fifth),
+        s0: value(&bits, &field::powers()),
+        s2: value(&bits, &cubes()),
+        s4: value(&bits, &fifths()),
     }
 }
 
@@ -165,19 +143,12 @@ impl Syndromes {
     pub fn single(x: Gf) -> Syndromes
         ensures { (val result.s0 ≡ val x) × (val result.s2 ≡ pow (val x) 3) × (val result.s4 ≡ pow (val x) 5) }
     {
-        if x.is_zero() {
-            return Syndromes {
-                s0: x,
-                s2: x,
-                s4: x,
-            };
-        }
-        let square = kernel::product(x, x);
-        let third = kernel::product(x, square);
+        let square = product(x, x);
+        let third = product(x, square);
         Syndromes {
             s0: x,
             s2: third,
-            s4: kernel::product(square, third),
+            s4: product(square, third),
         }
     }
 
@@ -186,13 +157,10 @@ impl Syndromes {
             × (val result.s2 ≡ val self.s2 ⊕ val other.s2)
             × (val result.s4 ≡ val self.s4 ⊕ val other.s4) }
     {
-        let a = self.s0;
-        let b = self.s2;
-        let c = self.s4;
         Syndromes {
-            s0: a.sum(other.s0),
-            s2: b.sum(other.s2),
-            s4: c.sum(other.s4),
+            s0: self.s0.sum(other.s0),
+            s2: self.s2.sum(other.s2),
+            s4: self.s4.sum(other.s4),
         }
     }
 
@@ -200,15 +168,6 @@ impl Syndromes {
     pub fn are_zero(self) -> bool
         ensures { result ≡ is_zero (val self.s0) && (is_zero (val self.s2) && is_zero (val self.s4)) }
     {
-        let a = self.s0;
-        let b = self.s2;
-        let c = self.s4;
-        if !a.is_zero() {
-            return false;
-        }
-        if !b.is_zero() {
-            return false;
-        }
-        c.is_zero()
+        self.s0.is_zero() && self.s2.is_zero() && self.s4.is_zero()
     }
 }

@@ -3,19 +3,24 @@
 -- Proved: a table of syndromes that is zero says that the subwords are in the code of t0, and a codeword has such a
 -- table (zeros-subwords, not_zeros); then the nested words' syndromes below 2 t0 are zero too, and the block is a
 -- codeword exactly if those from there on are (check-passes, check_fails); a nested word's further syndromes are the
--- values of its remainder (word-syndrome).
+-- values of its remainder (word-syndrome). So it is if all these are zero (past-passes), and not if they are not
+-- (past_fails).
 use Rattle.std.specs.Prelude.{ℕ, zero, suc, ◌+◌, ◌-◌, ◌*◌, ◌≤◌, ◌<◌, ◌≡◌, ◌≢◌, true, false, List, [], ◌∷◌, length, take}
+use Rattle.std.specs.Prelude.{map, drop as drop-list}
 use Rattle.std.proofs.Common.{sym, ap, ◌∙◌, true≢false, arith, lt-ltb, le-ltb}
 use Rattle.std.proofs.Math.Bool.{decide_iff}
 use Rattle.std.proofs.Math.Decide.{dec_lt}
 use Rattle.field.specs.declared.Gf.{Gf}
-use Rattle.field.specs.Field.{𝟎, ◌⊙◌, α, pow, ⊙-zero}
+use Rattle.field.specs.Field.{𝟎, ◌⊙◌, α, pow, ⊙-zero, val, val-zero}
 use Rattle.series.specs.Sum.{sum-zero}
 use Rattle.series.specs.Series.{Series, O, O-at}
-use Rattle.series.specs.Shift.{cut, cut_low, cut_unique}
-use Rattle.series.specs.Array.{bytes}
+use Rattle.series.specs.Shift.{drop, drop_at, cut, cut_low, cut_unique}
+use Rattle.series.specs.Array.{bytes, values}
+use Rattle.series.specs.Part.{read-part}
+use Rattle.series.specs.Word.{entry}
 use Rattle.series.specs.Decide.{holds, holds_yes, holds_no}
-use Rattle.polynomial.specs.Polynomial.{row}
+use Rattle.kernel.specs.Symbol.{read-entry}
+use Rattle.polynomial.specs.Polynomial.{row, row-values, clear-part}
 use Rattle.profile.specs.declared.Profile.{Profile}
 use Rattle.profile.specs.Definition.{capability, first-root, checks}
 use Rattle.profile.specs.Valid.{Valid, checks-is, checks_mono, checks-most}
@@ -110,3 +115,28 @@ module _ (p : Profile) (s : Series) (ok : Valid p) (l k c : ℕ) (r : List ℕ) 
       → false ≡ holds (codeword? p s)
   check_fails j h low q n = sym (holds_no (codeword? p s)
       (λ c. n (word-syndrome j low q ∙ c.nested_words l h j (omega (arith, checks-is p l)))))
+
+  -- the same of all these values together
+  module _ (long : length x ≡ 48) (room : 2 * p.t0 ≤ c) where
+    abbrev past : List Gf
+    past = take (c - 2 * p.t0) (drop-list (2 * p.t0) x)
+
+    pub past-passes : entry (map val past) ≡ O → Vanish p s l
+    past-passes e j low q =
+        sym (word-syndrome j low q) ∙ ap (λ (f : Series). f j) (row-values x long)
+        ∙ clear-part x (2 * p.t0) c room (omega (arith, asked, long, checks-most p ok l)) e j low (omega (arith, asked))
+
+    pub past_fails : l < p.nested → entry (map val past) ≢ O → false ≡ holds (codeword? p s)
+    past_fails h n = sym (holds_no (codeword? p s) (λ w. n (zero w)))
+      where
+        entry_zero : Codeword p s → (j : ℕ) → j < c - 2 * p.t0 → drop (2 * p.t0) (values x) j ≡ 𝟎
+        entry_zero w j q =
+            drop_at (2 * p.t0) (values x) j ∙ ap (λ (f : Series). f (2 * p.t0 + j)) (sym (row-values x long))
+            ∙ word-syndrome (2 * p.t0 + j) (omega arith) (omega (arith, asked))
+            ∙ w.nested_words l h (2 * p.t0 + j) (omega (arith, asked, checks-is p l))
+
+        zero : Codeword p s → entry (map val past) ≡ O
+        zero w = sym (read-entry val (record { 0 = 0 }) val-zero past)
+            ∙ read-part val (record { 0 = 0 }) val-zero (2 * p.t0) (c - 2 * p.t0) x
+            (omega (arith, asked, long, room, checks-most p ok l))
+            ∙ cut_unique _ _ O (λ j q. entry_zero w j q ∙ sym (O-at j)) (λ j _. O-at j)

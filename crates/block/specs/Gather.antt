@@ -7,7 +7,7 @@
 -- many as the data before subword i (before-length); how one part more is gathered (before_more). From a block that
 -- encodes data, these data are gathered (data-written).
 use Rattle.std.specs.Prelude.{ℕ, zero, suc, ◌+◌, ◌-◌, ◌*◌, ◌≤◌, ◌<◌, ◌≡◌, refl, List, [], ◌++◌, length, get_or, take}
-use Rattle.std.specs.Prelude.{drop}
+use Rattle.std.specs.Prelude.{drop, Ok}
 use Rattle.std.proofs.Common.{sym, ap, ap₂, ◌∙◌, add-one, suc-mul, arith, length-drop, length-append, length-take-le}
 use Rattle.std.proofs.Common.{take-add, take_all, take_at, get_or-take, get_or-drop, ext_get_or}
 use Rattle.std.proofs.Math.Seq.{take-append-add}
@@ -15,7 +15,6 @@ use Rattle.field.specs.Field.{of, of_inj}
 use Rattle.series.specs.Array.{bytes, read_at}
 use Rattle.series.specs.Part.{splice}
 use Rattle.profile.specs.declared.Profile.{Profile}
-use Rattle.profile.specs.declared.Parsed.TheVariants.{Accepted}
 use Rattle.profile.specs.Definition.{checks, data_size, data_length, data_start}
 use Rattle.profile.specs.Valid.{checks-below, data_size-is, data_start-most}
 use Rattle.profile.specs.FetchDefinition.{part}
@@ -26,7 +25,7 @@ use Rattle.block.specs.Parts.{Fits, inside}
 
 abbrev pub data_before : Profile → ℕ → List ℕ → List ℕ
 data_before p zero b = []
-data_before p (suc i) b = data_before p i b ++ part (Accepted p) i b
+data_before p (suc i) b = data_before p i b ++ part (Ok p) i b
 
 abbrev pub data_of : Profile → List ℕ → List ℕ
 data_of p b = data_before p p.subwords b
@@ -37,7 +36,7 @@ pub within : (p : Profile) (b : List ℕ) (i : ℕ) → Fits p b → i < p.subwo
 within p b i f h = record { subword = h; some = checks-below p f.valid i; size = f.size }
 
 pub part_length : (p : Profile) (b : List ℕ) (i : ℕ) → Fits p b → i < p.subwords
-    → length (part (Accepted p) i b) ≡ data_length p i
+    → length (part (Ok p) i b) ≡ data_length p i
 part_length p b i f h =
     let a = i * p.length + checks p i in
     let n : (i + 1) * p.length ≡ i * p.length + p.length = rw add-one (omega (arith, suc-mul i p.length)) in
@@ -50,7 +49,7 @@ pub before-length : (p : Profile) (b : List ℕ) → Fits p b → (i : ℕ) → 
     → length (data_before p i b) ≡ data_start p i
 before-length p b f zero h = refl
 before-length p b f (suc i) h =
-    length-append (data_before p i b) (part (Accepted p) i b)
+    length-append (data_before p i b) (part (Ok p) i b)
     ∙ ap₂ ◌+◌ (before-length p b f i (omega arith)) (part_length p b i f h)
 
 -- there are not many
@@ -61,13 +60,13 @@ data-most p b f = omega (arith, inside p b 0 f f.valid.subwords.0, f.size)
 
 -- a subword's data fit behind those of the subwords before it
 pub room : (p : Profile) (b : List ℕ) (i : ℕ) → Fits p b → i < p.subwords
-    → data_start p i + length (part (Accepted p) i b) ≤ data_size p
+    → data_start p i + length (part (Ok p) i b) ≤ data_size p
 room p b i f h = omega (arith, part_length p b i f h, data_start-most p f.valid (suc i) h)
 
 -- y is the part of subword i, written behind the others
 pub before_more : (p : Profile) (b : List ℕ) (i at n : ℕ) (out y part-i : List ℕ) → Fits p b → i < p.subwords
     → at ≡ data_start p i → length out ≡ data_size p → take at out ≡ data_before p i b
-    → part-i ≡ part (Accepted p) i b → y ≡ part-i → n ≡ length part-i
+    → part-i ≡ part (Ok p) i b → y ≡ part-i → n ≡ length part-i
     → (at + length part-i ≡ data_start p (i + 1)) × (length (splice at n y out) ≡ data_size p)
     × (take (at + length part-i) (splice at n y out) ≡ data_before p (i + 1) b)
 before_more p b i at n out y part-i f h start size before is same long =
@@ -113,7 +112,7 @@ module _ (p : Profile) (d b : List ℕ) (f : Fits p b) (size : length d ≡ data
       ap (λ a. get_or b a 0) assoc ∙ of_inj (get_or b a 0) (get_or d k 0) (small_b a) (small-d k) same
 
   part_data : (i : ℕ) → i < p.subwords
-      → part (Accepted p) i b ≡ take (data_length p i) (drop (data_start p i) d)
+      → part (Ok p) i b ≡ take (data_length p i) (drop (data_start p i) d)
   part_data i h =
       let l = part_length p b i f h in
       let r : length (take (data_length p i) (drop (data_start p i) d)) ≡ data_length p i =

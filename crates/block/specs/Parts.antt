@@ -1,6 +1,7 @@
 -- Blocks of bytes, and words that stand in parts of arrays.
 --
---   Fits p b   b is a block of the size that the valid profile p says
+--   Fits p b       b is a block of the size that the valid profile p says
+--   Part p b i l   l is subword i of the block b
 use Rattle.std.specs.Prelude.{ℕ, suc, ◌+◌, ◌*◌, ◌≤◌, ◌<◌, ◌≡◌, List, length, take, drop}
 use Rattle.std.proofs.Common.{ap, ◌∙◌, suc-mul, mul-le-mul_right, arith, length-drop, length-take-le}
 use Rattle.std.proofs.Math.Path.{fun_ext}
@@ -48,24 +49,26 @@ part_length n i k b e h =
     ap (λ k. length (take k (drop (i * n) b))) e
     ∙ length-take-le n (drop (i * n) b) (omega (arith, length-drop (i * n) b))
 
-pub part-is : (n i k : ℕ) (b : List ℕ) → k ≡ n → i * n + n ≤ length b
-    → bytes (take k (drop (i * n) b)) ≡ cut n (subword n (bytes b) i)
-part-is n i k b e h = ap (λ k. bytes (take k (drop (i * n) b))) e ∙ subword-part n b i h
+pub record Part (p : Profile) (b : List ℕ) (i : ℕ) (l : List ℕ) : Type 0 where
+  pub long : length l ≡ p.length
+  pub is : bytes l ≡ cut p.length (subword p.length (bytes b) i)
 
-part_at : (n i k : ℕ) (b : List ℕ) → k ≡ n → i * n + n ≤ length b → (q : ℕ) → q < n
-    → bytes (take k (drop (i * n) b)) q ≡ subword n (bytes b) i q
-part_at n i k b e h q l = ap (λ (f : Series). f q) (part-is n i k b e h) ∙ cut_low n _ q l
+pub part : (p : Profile) (b : List ℕ) (i k : ℕ) → Fits p b → i < p.subwords → k ≡ p.length
+    → Part p b i (take k (drop (i * p.length) b))
+part p b i k f h e =
+    let room = (inside p b i f h).0 in record {
+      long = part_length p.length i k b e room;
+      is = ap (λ k. bytes (take k (drop (i * p.length) b))) e ∙ subword-part p.length b i room;
+    }
 
-pub part-syndrome : (first n i k : ℕ) (b : List ℕ) → k ≡ n → i * n + n ≤ length b
-    → syndrome first (length (take k (drop (i * n) b))) (bytes (take k (drop (i * n) b)))
-    ≡ syndrome first n (subword n (bytes b) i)
-part-syndrome first n i k b e h =
-    ap (λ l. syndrome first l (bytes (take k (drop (i * n) b)))) (part_length n i k b e h)
-    ∙ fun_ext (syndrome_cong first n _ _ (part_at n i k b e h))
+module _ (first : ℕ) {p : Profile} {b : List ℕ} {i : ℕ} {l : List ℕ} (w : Part p b i l) where
+  at : (q : ℕ) → q < p.length → bytes l q ≡ subword p.length (bytes b) i q
+  at q h = ap (λ (f : Series). f q) w.is ∙ cut_low p.length _ q h
 
-pub part-residue : (first n i k : ℕ) (b : List ℕ) (r : ℕ) → k ≡ n → i * n + n ≤ length b
-    → residue first (length (take k (drop (i * n) b))) r (bytes (take k (drop (i * n) b)))
-    ≡ residue first n r (subword n (bytes b) i)
-part-residue first n i k b r e h =
-    ap (λ l. residue first l r (bytes (take k (drop (i * n) b)))) (part_length n i k b e h)
-    ∙ residue_cong first n r _ _ (part_at n i k b e h)
+  pub part-syndrome : syndrome first (length l) (bytes l) ≡ syndrome first p.length (subword p.length (bytes b) i)
+  part-syndrome =
+      ap (λ n. syndrome first n (bytes l)) w.long ∙ fun_ext (syndrome_cong first p.length _ _ at)
+
+  pub part-residue : (r : ℕ)
+      → residue first (length l) r (bytes l) ≡ residue first p.length r (subword p.length (bytes b) i)
+  part-residue r = ap (λ n. residue first n r (bytes l)) w.long ∙ residue_cong first p.length r _ _ at

@@ -17,9 +17,7 @@ pub fn add_multiple(p: Profile, c: Gf, block: &[u8], i: usize, word: &mut [u8])
         bytes word.old ⊞ K (val c) ⊠ cut p.length (subword p.length (bytes block.now) i) }
 {
     let n = p.length as usize;
-    let a = i * n;
-    let e = a + n;
-    kernel::add_multiple(c, &block[a..e], &mut word[..n]);
+    kernel::add_multiple(c, crate::part::subword(p, block, i), &mut word[..n]);
 }
 
 // Adds subword i of a block to the word.

@@ -43,12 +43,10 @@ pub fn tables(p: Profile, t: &mut [u64], u: &mut [u64])
 fn is_zero(rows: [[Gf; SYNDROMES]; SUBWORDS]) -> bool
     ensures { result ≡ holds (zeros? rows) }
 {
-    let mut i: usize = 0;
-    while i < SUBWORDS {
-        if !polynomial::syndromes::is_zero(rows[i]) {
+    for row in &rows {
+        if !polynomial::syndromes::is_zero(*row) {
             return false;
         }
-        i = i + 1;
     }
     true
 }
@@ -71,32 +69,17 @@ fn remainders(p: Profile, u: &[u64], block: &[u8]) -> [[u8; SYNDROMES]; NESTED]
     requires { Fits p block.now × Further p u.now }
     ensures { Remainders p (bytes block.now) result }
 {
-    let mut out = [[0u8; SYNDROMES]; NESTED];
     if p.nested == 0 {
-        return out;
+        return [[0u8; SYNDROMES]; NESTED];
     }
     let n = p.length as usize;
     let first = p.first_root as usize + 2 * p.t0 as usize;
     let a = word(p, block, 0);
     let b = word(p, block, 1);
     let c = word(p, block, 2);
-    let d = [0u8; POSITIONS];
-    let r = divider::reed_solomon::residues(
-        u,
-        first,
-        further(p),
-        &a[..n],
-        &b[..n],
-        &c[..n],
-        &d[..n],
-    );
-    let x = r.first;
-    let y = r.second;
-    let z = r.third;
-    out[0] = x;
-    out[1] = y;
-    out[2] = z;
-    out
+    let words = [&a[..n], &b[..n], &c[..n], &c[..n]];
+    let [x, y, z, _] = divider::reed_solomon::residues(u, first, further(p), words, n);
+    [x, y, z]
 }
 
 // Whether a block whose subwords are in the code of t0 is a codeword: the nested words and their syndromes from number
@@ -111,24 +94,15 @@ pub fn is_codeword(p: Profile, u: &[u64], block: &[u8]) -> bool
     let low = 2 * p.t0 as usize;
     let k = further(p);
     let rows = remainders(p, u, block);
-    let mut clean = true;
-    let mut l: usize = 0;
-    'sums: while l < v {
+    for l in 0..v {
         let r = rows[l];
         let checks = p.checks(l as u8) as usize;
         let row = divider::evaluation::at_roots(first, &r[..k], checks);
-        let mut j: usize = low;
-        while j < checks {
-            let s = row[j];
-            if !s.is_zero() {
-                clean = false;
-                break 'sums;
-            }
-            j = j + 1;
+        if !kernel::is_zero(&row[low..checks]) {
+            return false;
         }
-        l = l + 1;
     }
-    clean
+    true
 }
 
 // Whether a block with these syndromes j < 2 t0 of its subwords is a codeword: if they are all zero, the nested words

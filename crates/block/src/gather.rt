@@ -13,12 +13,10 @@ pub fn gather(p: Profile, block: &[u8], out: &mut [u8])
 {
     let m = p.subwords as usize;
     let mut at: usize = 0;
-    let mut i: usize = 0;
-    while i < m {
+    for i in 0..m {
         let part = profile::fetch::positions(p, block, i);
         let e = at + part.len();
-        kernel::copy(part, &mut out[at..e]);
+        out[at..e].copy_from_slice(part);
         at = e;
-        i = i + 1;
     }
 }

@@ -15,13 +15,9 @@ pub fn nested_word(p: Profile, block: &[u8], l: usize) -> [u8; POSITIONS]
 {
     let m = p.subwords as usize;
     let mut word = [0u8; POSITIONS];
-    let mut e: usize = 0;
-    let mut i: usize = 0;
-    while i < m {
-        let c = Exponent(e).power();
+    for i in 0..m {
+        let c = Exponent(i * l).power();
         crate::accumulate::add_multiple(p, c, block, i, &mut word);
-        e = e + l;
-        i = i + 1;
     }
     word
 }

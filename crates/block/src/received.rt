@@ -13,6 +13,7 @@ ghost use Rattle.block.specs.Table.{table};
 ghost use Rattle.code.specs.Check.{received};
 ghost use Rattle.block.specs.ReceivedRows.{FirstRows};
 
+use crate::part::subword;
 use field::Gf;
 use polynomial::SYNDROMES;
 use profile::{Profile, SUBWORDS};
@@ -26,65 +27,31 @@ fn row(first: usize, r: [u8; SYNDROMES], k: usize) -> [Gf; SYNDROMES]
 }
 
 // Stores the rows of the four subwords from i on in the table.
-fn four(
-    p: Profile,
-    t: &[u64],
-    block: &[u8],
-    i: usize,
-    rows: [[Gf; SYNDROMES]; SUBWORDS],
-) -> [[Gf; SYNDROMES]; SUBWORDS]
+fn four(p: Profile, t: &[u64], block: &[u8], i: usize, rows: &mut [[Gf; SYNDROMES]; SUBWORDS])
     requires { Fits p block.now × Table (first-root p) (2 * p.t0) t.now × (i + 4 ≤ p.subwords) }
-    ensures { FirstRows p (bytes block.now) i rows
-        → FirstRows p (bytes block.now) (i + 4) result }
+    ensures { FirstRows p (bytes block.now) i rows.old → FirstRows p (bytes block.now) (i + 4) rows.new }
 {
-    let n = p.length as usize;
     let first = p.first_root as usize;
     let k = 2 * p.t0 as usize;
-    let a = i * n;
-    let b = a + n;
-    let c = b + n;
-    let d = c + n;
-    let e = d + n;
-    let r = divider::reed_solomon::residues(
-        t,
-        first,
-        k,
-        &block[a..b],
-        &block[b..c],
-        &block[c..d],
-        &block[d..e],
-    );
-    let w = r.first;
-    let x = r.second;
-    let y = r.third;
-    let z = r.fourth;
-    let mut out = rows;
-    out[i] = row(first, w, k);
-    out[i + 1] = row(first, x, k);
-    out[i + 2] = row(first, y, k);
-    out[i + 3] = row(first, z, k);
-    out
+    let words = [
+        subword(p, block, i),
+        subword(p, block, i + 1),
+        subword(p, block, i + 2),
+        subword(p, block, i + 3),
+    ];
+    let left = divider::reed_solomon::residues(t, first, k, words, p.length as usize);
+    for j in 0..4 {
+        rows[i + j] = row(first, left[j], k);
+    }
 }
 
 // Stores the row of subword i in the table.
-fn one(
-    p: Profile,
-    t: &[u64],
-    block: &[u8],
-    i: usize,
-    rows: [[Gf; SYNDROMES]; SUBWORDS],
-) -> [[Gf; SYNDROMES]; SUBWORDS]
+fn one(p: Profile, t: &[u64], block: &[u8], i: usize, rows: &mut [[Gf; SYNDROMES]; SUBWORDS])
     requires { Fits p block.now × Table (first-root p) (2 * p.t0) t.now × (i < p.subwords) }
-    ensures { FirstRows p (bytes block.now) i rows
-        → FirstRows p (bytes block.now) (i + 1) result }
+    ensures { FirstRows p (bytes block.now) i rows.old → FirstRows p (bytes block.now) (i + 1) rows.new }
 {
-    let n = p.length as usize;
-    let a = i * n;
-    let e = a + n;
     let first = p.first_root as usize;
-    let mut out = rows;
-    out[i] = divider::evaluation::syndromes(t, first, 2 * p.t0 as usize, &block[a..e]);
-    out
+    rows[i] = divider::evaluation::syndromes(t, first, 2 * p.t0 as usize, subword(p, block, i));
 }
 
 // The syndromes j < 2 t0 of the subwords: eight rows of 48, unused entries zero.
@@ -94,16 +61,11 @@ pub fn syndromes(p: Profile, t: &[u64], block: &[u8]) -> [[Gf; SYNDROMES]; SUBWO
 {
     let m = p.subwords as usize;
     let mut out = [[Gf::ZERO; SYNDROMES]; SUBWORDS];
-    let mut i: usize = 0;
-    while i + 4 <= m {
-        let further = four(p, t, block, i, out);
-        out = further;
-        i = i + 4;
+    for q in 0..m / 4 {
+        four(p, t, block, 4 * q, &mut out);
     }
-    while i < m {
-        let further = one(p, t, block, i, out);
-        out = further;
-        i = i + 1;
+    for i in m / 4 * 4..m {
+        one(p, t, block, i, &mut out);
     }
     out
 }

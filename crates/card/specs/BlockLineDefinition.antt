@@ -5,12 +5,10 @@
 --   told i a r c w    the line of block i, from what is answered and reported
 --   Made s t u        t and u are the tables for the section s, if it is a block
 --   Kept s t u        .. if it is a block, and not the first
-use Rattle.std.specs.Prelude.{ℕ, ◌<◌, List}
+use Rattle.std.specs.Prelude.{ℕ, ◌<◌, List, Ok, Err}
 use Rattle.series.specs.Array.{bytes}
 use Rattle.profile.specs.declared.Profile.{Profile}
-use Rattle.profile.specs.declared.Answer.{Answer}
-use Rattle.profile.specs.declared.Answer.TheVariants.{Accepted, Refused}
-use Rattle.profile.specs.Definition.{number_of}
+use Rattle.profile.specs.Definition.{Answer, number_of}
 use Rattle.block.specs.CodewordDefinition.{Tables}
 use Rattle.staged_decoding.specs.Definition.{decode}
 use Rattle.decoder.specs.Definition.{Result, read, refused, concluded}
@@ -28,8 +26,8 @@ unfoldable pub block_line : Profile → ℕ → List ℕ → List ℕ
 block_line p i y = line i (concluded p (decode p (bytes y)))
 
 abbrev pub told : ℕ → Answer → (r c w : ℕ) → List ℕ
-told i Accepted r c w = ok_line i r c w
-told i (Refused q) r c w = refused_line i (number_of q)
+told i (Ok tt) r c w = ok_line i r c w
+told i (Err q) r c w = refused_line i (number_of q)
 
 abbrev pub Made : Section → List ℕ → List ℕ → Type 0
 Made Size t u = Unit

@@ -2,8 +2,7 @@
 use Rattle.std.specs.Prelude.{ℕ, ◌≤◌, ◌≡◌, true, List, length}
 use Rattle.std.proofs.Common.{ap, subst}
 use Rattle.profile.specs.declared.Profile.{Profile}
-use Rattle.profile.specs.declared.Answer.{Answer}
-use Rattle.profile.specs.Definition.{block_size}
+use Rattle.profile.specs.Definition.{Answer, block_size}
 use Rattle.block.specs.Parts.{Fits}
 use Rattle.decoder.specs.Definition.{Result, read, refused, answer_to, report_of}
 use Rattle.listing.specs.Definition.{Printed}

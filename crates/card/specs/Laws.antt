@@ -2,11 +2,10 @@
 --
 -- Proved: the tables for a section serve what comes next (made-next); none are asked for where a section was cut
 -- (cut-kept).
-use Rattle.std.specs.Prelude.{ℕ, ◌+◌, ◌≡◌, Bool, true, false, cond, List, eqb, ltb, get_or}
+use Rattle.std.specs.Prelude.{ℕ, ◌+◌, ◌≡◌, Bool, true, false, cond, List, eqb, ltb, get_or, Ok, Err}
 use Rattle.std.proofs.Math.Path.{subst⁻¹}
 use Rattle.std.proofs.Common.{arith}
-use Rattle.profile.specs.declared.Parsed.{Parsed}
-use Rattle.profile.specs.declared.Parsed.TheVariants.{Accepted, Refused}
+use Rattle.profile.specs.Definition.{Parsed}
 use Rattle.profile.specs.Questions.{good_size, factory, profile_of}
 use Rattle.card.specs.declared.section.Section.{Section}
 use Rattle.card.specs.declared.section.Section.TheVariants.{Size, Bytes, Count, Block, End, Over}
@@ -34,8 +33,8 @@ module _ (t u : List ℕ) where
   made-next (Bytes n) y h = go (profile_of y)
     where
       go : (a : Parsed) → Kept (profile_step a).next t u
-      go (Accepted p) = tt
-      go (Refused q) = tt
+      go (Ok p) = tt
+      go (Err q) = tt
   made-next (Count p) y h = go (ltb 0 (count_of y))
     where
       go : (b : Bool) → Kept (cond b (Block p 0 (count_of y)) End) t u

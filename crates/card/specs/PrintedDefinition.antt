@@ -6,12 +6,10 @@
 --   counted p c      .. for the number of blocks, and the blocks
 --   profiled n c     .. for the n bytes of a profile, and what follows them
 --   printed c        the list that is printed for a card
-use Rattle.std.specs.Prelude.{ℕ, zero, suc, ◌+◌, ◌*◌, cond, List, [], ◌++◌, ltb, length, get_or, take, drop}
+use Rattle.std.specs.Prelude.{ℕ, zero, suc, ◌+◌, ◌*◌, cond, List, [], ◌++◌, ltb, length, get_or, take, drop, Ok, Err}
 use Rattle.profile.specs.declared.Profile.{Profile}
 use Rattle.profile.specs.declared.Refusal.TheVariants.{ProfileSize}
-use Rattle.profile.specs.declared.Parsed.{Parsed}
-use Rattle.profile.specs.declared.Parsed.TheVariants.{Accepted, Refused}
-use Rattle.profile.specs.Definition.{number_of, block_size}
+use Rattle.profile.specs.Definition.{Parsed, number_of, block_size}
 use Rattle.profile.specs.Questions.{good_size, profile_of}
 use Rattle.listing.specs.Definition.{blocks_line, card_line}
 use Rattle.card.specs.BlockLineDefinition.{block_line}
@@ -41,8 +39,8 @@ counted p c = section 2 c (numbered p)
 
 -- FORMAT 9.3: the profile is judged before the number of blocks is there
 abbrev pub profile_judged : Parsed → List ℕ → List ℕ
-profile_judged (Accepted p) r = counted p r
-profile_judged (Refused q) r = card_line (number_of q)
+profile_judged (Ok p) r = counted p r
+profile_judged (Err q) r = card_line (number_of q)
 
 -- FORMAT 9.3: .. when its n bytes are there, which is at once if it has none
 abbrev pub profiled : ℕ → List ℕ → List ℕ

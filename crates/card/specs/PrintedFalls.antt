@@ -3,11 +3,10 @@
 -- Proved: some sections are left, unless all is printed (some_left); a step brings the end nearer (step_falls), for
 -- bytes that are below 256.
 use Rattle.std.specs.Prelude.{ℕ, suc, ◌+◌, ◌-◌, ◌≤◌, ◌<◌, ◌≡◌, refl, Bool, true, false, cond, List, eqb, ltb, length}
-use Rattle.std.specs.Prelude.{get_or, take}
+use Rattle.std.specs.Prelude.{get_or, take, Ok, Err}
 use Rattle.std.proofs.Common.{true≢false, arith, ltb-true, get_or-take}
 use Rattle.profile.specs.declared.Profile.{Profile}
-use Rattle.profile.specs.declared.Parsed.{Parsed}
-use Rattle.profile.specs.declared.Parsed.TheVariants.{Accepted, Refused}
+use Rattle.profile.specs.Definition.{Parsed}
 use Rattle.profile.specs.Questions.{good_size, factory, profile_of}
 use Rattle.card.specs.declared.section.Section.{Section}
 use Rattle.card.specs.declared.section.Section.TheVariants.{Size, Bytes, Count, Block, End, Over}
@@ -47,8 +46,8 @@ whole-falls Size y h o = go (get_or (take 1 y) 0 0)
 whole-falls (Bytes n) y h o = go (profile_of (take n y))
   where
     go : (a : Parsed) → left (profile_step a).next < left (Bytes n)
-    go (Accepted p) = omega arith
-    go (Refused q) = omega arith
+    go (Ok p) = omega arith
+    go (Err q) = omega arith
 whole-falls (Count p) y h o =
     let high : get_or (take 2 y) 0 0 ≡ get_or y 0 0 = get_or-take 2 y 0 0 (omega arith) in
     let low : get_or (take 2 y) 1 0 ≡ get_or y 1 0 = get_or-take 2 y 1 0 (omega arith) in

@@ -6,7 +6,7 @@
 -- Proved: every step of a section that a card can lead to does so (follows), whether it is cut or whole (cut-good,
 -- whole-good). A section that is whole (section-whole); one of no bytes, after which the count comes (none-profiled).
 use Rattle.std.specs.Prelude.{ℕ, zero, suc, ◌+◌, ◌-◌, ◌≤◌, ◌<◌, ◌≡◌, refl, Bool, true, false, cond, List, [], ◌∷◌, ◌++◌}
-use Rattle.std.specs.Prelude.{eqb, ltb, length, get_or, take, drop}
+use Rattle.std.specs.Prelude.{eqb, ltb, length, get_or, take, drop, Ok, Err}
 use Rattle.std.proofs.Common.{sym, ap, ap₂, ◌∙◌, true≢false, append-nil, arith, ltb-true, ltb-false, lt-ltb, le-ltb}
 use Rattle.std.proofs.Common.{eqb-true, length-take-le, take_all}
 use Rattle.std.proofs.Math.Path.{subst⁻¹}
@@ -16,9 +16,7 @@ use Rattle.std.proofs.Math.Nat.{sub-zero}
 use Rattle.std.proofs.Math.Decide.{dec_lt}
 use Rattle.std.proofs.lemmas.Bool.{eqb-false}
 use Rattle.profile.specs.declared.Profile.{Profile}
-use Rattle.profile.specs.declared.Parsed.{Parsed}
-use Rattle.profile.specs.declared.Parsed.TheVariants.{Accepted, Refused}
-use Rattle.profile.specs.Definition.{number_of, block_size}
+use Rattle.profile.specs.Definition.{Parsed, number_of, block_size}
 use Rattle.profile.specs.Questions.{good_size, factory, profile_of}
 use Rattle.profile.specs.QuestionsLaws.{none-accepted}
 use Rattle.listing.specs.Definition.{blocks_line, card_line}
@@ -72,8 +70,8 @@ profile_follows : (y d : List ℕ) → Follows (profile_step (profile_of y)) (pr
 profile_follows y d = go (profile_of y) refl
   where
     go : (a : Parsed) → profile_of y ≡ a → Follows (profile_step a) (profile_judged a d) d
-    go (Accepted p) h = record { good = profile-accepts y p h; says = refl }
-    go (Refused q) h = refused (number_of q) d
+    go (Ok p) h = record { good = profile-accepts y p h; says = refl }
+    go (Err q) h = refused (number_of q) d
 
 -- block i out of k, or the end
 from-good : (p : Profile) (i k : ℕ) → accepts p ≡ true → good (from p i k) ≡ true

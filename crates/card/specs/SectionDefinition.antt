@@ -14,13 +14,11 @@
 --   Step               what a section comes to: the text that is printed, and what comes next (silent: no text;
 --                      refusal: the card is refused)
 --   Takes x l t m      t is what the step x hands back: the line was l, and is m now
-use Rattle.std.specs.Prelude.{ℕ, suc, ◌-◌, ◌≡◌, Bool, true, false, cond, ◌&&◌, List, [], eqb, ltb, leb}
+use Rattle.std.specs.Prelude.{ℕ, suc, ◌-◌, ◌≡◌, Bool, true, false, cond, ◌&&◌, List, [], eqb, ltb, leb, Ok, Err}
 use Rattle.profile.specs.declared.Profile.{Profile}
-use Rattle.profile.specs.declared.Parsed.{Parsed}
-use Rattle.profile.specs.declared.Parsed.TheVariants.{Accepted, Refused}
 use Rattle.profile.specs.declared.questions.Caller.TheVariants.{Card}
 use Rattle.profile.specs.declared.questions.Lent.{Lent}
-use Rattle.profile.specs.Definition.{block_size}
+use Rattle.profile.specs.Definition.{Parsed, block_size}
 use Rattle.profile.specs.Questions.{good_size, asked}
 use Rattle.listing.specs.Definition.{card_line, Printed}
 use Rattle.card.specs.declared.section.Section.{Section}
@@ -28,8 +26,8 @@ use Rattle.card.specs.declared.section.Section.TheVariants.{Size, Bytes, Count, 
 use Rattle.card.specs.declared.section.Judged.{Judged}
 
 abbrev pub passes : Parsed → Bool
-passes (Accepted p) = true
-passes (Refused q) = false
+passes (Ok p) = true
+passes (Err q) = false
 
 -- a profile whose length is right, and nothing besides
 abbrev pub alone : Lent

@@ -4,15 +4,13 @@
 -- (accepts-size, block-most); the profile of bytes that are accepted is (profile-accepts); the section that is known in
 -- place of another is one that a card leads to (known-good), and in place of such a one it is itself (good-known);
 -- judging that prints nothing (takes-silent).
-use Rattle.std.specs.Prelude.{ℕ, ◌≤◌, ◌≡◌, Bool, false, cond, List, ltb}
+use Rattle.std.specs.Prelude.{ℕ, ◌≤◌, ◌≡◌, Bool, false, cond, List, ltb, Ok, Err}
 use Rattle.std.proofs.Math.Path.{refl, ap, subst⁻¹}
 use Rattle.std.proofs.Common.{sym, ◌∙◌, subst, true≢false, le_trans, mul-le-mul_right, arith}
 use Rattle.std.proofs.Math.Bool.{true, and-eq-true_iff}
 use Rattle.profile.specs.declared.Profile.{Profile}
-use Rattle.profile.specs.declared.Parsed.{Parsed}
-use Rattle.profile.specs.declared.Parsed.TheVariants.{Accepted, Refused}
 use Rattle.profile.specs.declared.questions.Caller.TheVariants.{Card}
-use Rattle.profile.specs.Definition.{block_size}
+use Rattle.profile.specs.Definition.{Parsed, block_size}
 use Rattle.profile.specs.Questions.{asked, read, lent, profile_of}
 use Rattle.profile.specs.QuestionsLaws.{asked_yes, asked-all, card_own}
 use Rattle.profile.specs.Valid.{Valid, asked-valid}
@@ -27,8 +25,8 @@ module _ (p : Profile) where
   accepts-valid e small = go (asked Card alone p) refl e
     where
       go : (a : Parsed) → asked Card alone p ≡ a → passes a ≡ true → Valid p
-      go (Accepted q) h e = subst⁻¹ Valid (asked_yes Card alone p q h).0 (asked-valid Card alone p q h small)
-      go (Refused q) h e = absurd (true≢false (sym e))
+      go (Ok q) h e = subst⁻¹ Valid (asked_yes Card alone p q h).0 (asked-valid Card alone p q h small)
+      go (Err q) h e = absurd (true≢false (sym e))
 
   pub accepts-size : accepts p ≡ true → p.length ≤ 255 → block_size p ≤ 2040
   accepts-size e small =
@@ -40,7 +38,7 @@ module _ (p : Profile) where
   accepts-is a e = ap passes e
 
 -- the profile of bytes that are accepted
-pub profile-accepts : (b : List ℕ) (q : Profile) → profile_of b ≡ Accepted q → accepts q ≡ true
+pub profile-accepts : (b : List ℕ) (q : Profile) → profile_of b ≡ Ok q → accepts q ≡ true
 unfolding accepts
 profile-accepts b q e =
     let (_, common, _) = asked_yes Card (lent b 0 0 0) (read b) q e in

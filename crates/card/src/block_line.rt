@@ -4,12 +4,11 @@ ghost use Rattle.std.specs.Prelude.{◌<◌, ◌≡◌, true, length};
 ghost use Rattle.profile.specs.Valid.{Valid};
 ghost use Rattle.block.specs.Parts.{Fits};
 ghost use Rattle.block.specs.CodewordDefinition.{Tables};
-ghost use Rattle.listing.specs.Definition.{Printed};
 ghost use Rattle.card.specs.BlockLineDefinition.{told as Told, block_line as BlockLine};
 
 use crate::section::SECTION;
-use listing::LINE;
-use profile::{Answer, Profile};
+use listing::Line;
+use profile::{Profile, Refusal};
 use solver::Form;
 
 // How many entries a table has.
@@ -22,13 +21,13 @@ pub fn blank() -> [u8; SECTION]
     [0u8; SECTION]
 }
 
-// Prints the line of block i, from what is answered and reported.
-fn told(i: u16, a: Answer, last: u8, changed: u16, bits: u16, line: &mut [u8; LINE]) -> usize
-    ensures { Printed (Told i a last changed bits) line.old result line.new }
+// The line of block i, from what is answered and reported.
+fn told(i: u16, a: Result<(), Refusal>, last: u8, changed: u16, bits: u16) -> Line
+    ensures { result ≡ Told i a last changed bits }
 {
     match a {
-        Answer::Accepted => listing::ok(i, last, changed, bits, line),
-        Answer::Refused(q) => listing::refused(i, profile::number(q), line),
+        Ok(()) => listing::ok(i, last, changed, bits),
+        Err(q) => listing::refused(i, q.into()),
     }
 }
 
@@ -37,50 +36,37 @@ fn prepare(p: Profile, i: u16, kept: bool, t: &mut [u64; TABLE], u: &mut [u64; T
     requires { Valid p × (kept ≡ true → 0 < i → Tables p t.old u.old) }
     ensures { Tables p t.new u.new }
 {
-    if kept {
-        if i > 0 {
-            return;
-        }
+    if !kept || i == 0 {
+        block::codeword::tables(p, t, u);
     }
-    block::codeword::tables(p, t, u);
 }
 
-// Reads block i into the array that is lent. All three solvers answer alike; it is the plain one.
-fn read_block(
-    p: Profile,
-    i: u16,
-    t: &[u64],
-    u: &[u64],
-    block: &[u8],
-    out: &mut [u8],
-    line: &mut [u8; LINE],
-) -> usize
+// Reads block i into the array that is lent, and answers its line. All three solvers answer alike; it is the plain one.
+fn read_block(p: Profile, i: u16, t: &[u64], u: &[u64], block: &[u8], out: &mut [u8]) -> Line
     requires { Fits p block.now × (length out.old ≡ length block.now) × Tables p t.now u.now }
-    ensures { Printed (BlockLine p i block.now) line.old result line.new }
+    ensures { result ≡ BlockLine p i block.now }
 {
     let r = decoder::prepared::read(p, Form::Plain, t, u, block, out);
-    let a = r.answer;
     let report = r.report;
-    told(i, a, report.last, report.changed, report.bits, line)
+    told(i, r.answer, report.last, report.changed, report.bits)
 }
 
-// Prints the line of block i. The tables serve the blocks of a card one after the other: they are made for the first
-// block, and for any block if they are not kept.
-pub fn print(
+// The line of block i. The tables serve the blocks of a card one after the other: they are made for the first block,
+// and for any block if they are not kept.
+pub fn line_of(
     p: Profile,
     i: u16,
     kept: bool,
     t: &mut [u64; TABLE],
     u: &mut [u64; TABLE],
     block: &[u8],
-    line: &mut [u8; LINE],
-) -> usize
+) -> Line
     requires { Fits p block.now × (kept ≡ true → 0 < i → Tables p t.old u.old) }
-    ensures printed { Printed (BlockLine p i block.now) line.old result line.new }
+    ensures says { result ≡ BlockLine p i block.now }
     ensures made { Tables p t.new u.new }
 {
     let n = block.len();
     prepare(p, i, kept, t, u);
     let mut out = blank();
-    read_block(p, i, t, u, block, &mut out[..n], line)
+    read_block(p, i, t, u, block, &mut out[..n])
 }

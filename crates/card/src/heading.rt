@@ -1,22 +1,55 @@
 // The sections before the blocks: how many bytes the profile has, the profile, how many blocks there are; and the line
 // of a card that is refused. What the promises speak of stands in specs/HeadingDefinition.antt.
-ghost use Rattle.std.specs.Prelude.{◌+◌, ◌*◌};
+ghost use Rattle.std.specs.Prelude.{◌+◌, ◌*◌, ◌≡◌};
 ghost use Rattle.profile.specs.Questions.{profile_of};
+ghost use Rattle.card.specs.declared.heading.Refusal.TheVariants.{Profile};
 ghost use Rattle.card.specs.SectionDefinition.{refusal, Takes};
-ghost use Rattle.card.specs.HeadingDefinition.{size_step, profile_step, count_step};
+ghost use Rattle.card.specs.HeadingDefinition.{card_number, size_step, profile_step, count_step};
 
 use crate::section::{Judged, Section};
 use listing::LINE;
-use profile::{Parsed, Profile, Refusal};
+use profile::Profile;
+
+// Why a card is refused.
+#[derive(Clone, Copy, Debug, PartialEq, Eq)]
+pub enum Refusal {
+    // a section is not whole
+    Cut,
+    // a byte comes after the last section
+    Beyond,
+    // by its profile
+    Profile(profile::Refusal),
+}
+
+impl From<profile::Refusal> for Refusal {
+    ghost from_gives = { λ q r. r ≡ Profile q };
+
+    fn from(q: profile::Refusal) -> Refusal {
+        Refusal::Profile(q)
+    }
+}
+
+// The number of a refusal: FORMAT 4.
+impl From<Refusal> for u8 {
+    ghost from_gives = { λ r n. n ≡ card_number r };
+
+    fn from(r: Refusal) -> u8 {
+        match r {
+            Refusal::Cut => 11,
+            Refusal::Beyond => 12,
+            Refusal::Profile(q) => q.into(),
+        }
+    }
+}
 
 // Refuses the card by its last line.
-pub fn refuse(q: u8, line: &mut [u8; LINE]) -> Judged
-    ensures { Takes (refusal q) line.old result line.new }
+pub fn refuse(r: Refusal, line: &mut [u8; LINE]) -> Judged
+    ensures { Takes (refusal (card_number r)) line.old result line.new }
 {
-    let size = listing::card(q, line);
+    let size = listing::card(r.into()).print(line);
     Judged {
         next: Section::Over,
-        size: size,
+        size,
     }
 }
 
@@ -25,14 +58,13 @@ pub fn judge_size(n: u8, line: &mut [u8; LINE]) -> Judged
     ensures { Takes (size_step n) line.old result line.new }
 {
     if n == 0 {
-        let factory = profile::questions::factory();
         return Judged {
-            next: Section::Count(factory),
+            next: Section::Count(profile::questions::factory()),
             size: 0,
         };
     }
     if !profile::questions::size(n as usize) {
-        return refuse(profile::number(Refusal::ProfileSize), line);
+        return refuse(profile::Refusal::ProfileSize.into(), line);
     }
     Judged {
         next: Section::Bytes(n),
@@ -45,11 +77,11 @@ pub fn judge_bytes(bytes: &[u8], line: &mut [u8; LINE]) -> Judged
     ensures { Takes (profile_step (profile_of bytes.now)) line.old result line.new }
 {
     match profile::questions::parse(bytes) {
-        Parsed::Accepted(p) => Judged {
+        Ok(p) => Judged {
             next: Section::Count(p),
             size: 0,
         },
-        Parsed::Refused(q) => refuse(profile::number(q), line),
+        Err(q) => refuse(q.into(), line),
     }
 }
 
@@ -57,10 +89,10 @@ pub fn judge_bytes(bytes: &[u8], line: &mut [u8; LINE]) -> Judged
 pub fn judge_count(p: Profile, high: u8, low: u8, line: &mut [u8; LINE]) -> Judged
     ensures { Takes (count_step p (256 * high + low)) line.old result line.new }
 {
-    let k = 256 * (high as u16) + low as u16;
-    let size = listing::blocks(k, line);
+    let k = u16::from_be_bytes([high, low]);
+    let size = listing::blocks(k).print(line);
     Judged {
-        next: crate::section::block_or_end(p, 0, k),
-        size: size,
+        next: Section::block_or_end(p, 0, k),
+        size,
     }
 }

@@ -14,23 +14,13 @@ ghost use Rattle.card.specs.SectionDefinition.{good, size as SizeOf, Takes};
 ghost use Rattle.card.specs.PrintedStep.{whole as Whole, cut as Cut, Judges};
 ghost use Rattle.card.specs.Definition.{Made, Kept};
 
+use crate::heading::Refusal;
 use crate::section::{Judged, Section};
 use listing::LINE;
 use profile::Profile;
 
 // How many entries a table has.
 pub const TABLE: usize = crate::block_line::TABLE;
-
-// The number of a card that has a section which is not whole.
-const CUT: u8 = 11;
-
-// The number of a card that has a byte after its last section.
-const BEYOND: u8 = 12;
-
-// An array for a table, all zeros.
-fn blank() -> [u64; TABLE] {
-    [0u64; TABLE]
-}
 
 // Judges block i out of k, and prints its line.
 fn judge_block(
@@ -48,10 +38,10 @@ fn judge_block(
         line.old result line.new }
     ensures made { Made (Section.Block p i k) t.new u.new }
 {
-    let size = crate::block_line::print(p, i, kept, t, u, block, line);
+    let size = block_line::line_of(p, i, kept, t, u, block).print(line);
     Judged {
-        next: crate::section::block_or_end(p, i + 1, k),
-        size: size,
+        next: Section::block_or_end(p, i + 1, k),
+        size,
     }
 }
 
@@ -69,11 +59,11 @@ fn whole(
     ensures made { Made s t.new u.new }
 {
     match s {
-        Section::Size => crate::heading::judge_size(bytes[0], line),
-        Section::Bytes(_) => crate::heading::judge_bytes(bytes, line),
-        Section::Count(p) => crate::heading::judge_count(p, bytes[0], bytes[1], line),
+        Section::Size => heading::judge_size(bytes[0], line),
+        Section::Bytes(_) => heading::judge_bytes(bytes, line),
+        Section::Count(p) => heading::judge_count(p, bytes[0], bytes[1], line),
         Section::Block(p, i, k) => judge_block(p, i, k, kept, t, u, bytes, line),
-        Section::End => crate::heading::refuse(BEYOND, line),
+        Section::End => heading::refuse(Refusal::Beyond, line),
         Section::Over => Judged {
             next: Section::Over,
             size: 0,
@@ -85,13 +75,13 @@ fn whole(
 fn cut(s: Section, line: &mut [u8; LINE]) -> Judged
     ensures { Takes (Cut s) line.old result line.new }
 {
-    if crate::section::may_end(s) {
+    if s.may_end() {
         return Judged {
             next: Section::Over,
             size: 0,
         };
     }
-    crate::heading::refuse(CUT, line)
+    heading::refuse(Refusal::Cut, line)
 }
 
 // Judges a section that a card leads to as `judge` does, with arrays lent for the tables that blocks are divided by.
@@ -110,7 +100,7 @@ pub fn judge_kept(
     ensures kept { Kept result.next t.new u.new }
     ensures next { good result.next ≡ true }
 {
-    let n = crate::section::size(s);
+    let n = s.size();
     if bytes.len() < n {
         return cut(s, line);
     }
@@ -123,7 +113,7 @@ pub fn judge_kept(
 pub fn judge(s: Section, bytes: &[u8], line: &mut [u8; LINE]) -> Judged
     ensures { Judges s bytes.now line.old result line.new }
 {
-    let mut t = blank();
-    let mut u = blank();
-    judge_kept(crate::section::known(s), false, &mut t, &mut u, bytes, line)
+    let mut t = [0; TABLE];
+    let mut u = [0; TABLE];
+    judge_kept(s.known(), false, &mut t, &mut u, bytes, line)
 }

@@ -5,8 +5,8 @@ ghost use Rattle.profile.specs.Questions.{good_size};
 ghost use Rattle.card.specs.SectionDefinition.{accepts, good as Good, known as Known, size as SizeOf};
 ghost use Rattle.card.specs.SectionDefinition.{wanted as Wanted, kinds as Kinds, ends, over, from};
 
+use profile::Profile;
 use profile::questions::{Caller, Lent};
-use profile::{Parsed, Profile};
 
 // The most bytes of a section.
 pub const SECTION: usize = profile::SYMBOLS;
@@ -29,17 +29,11 @@ pub enum Section {
 }
 
 // What comes next after a section, and how many bytes of the line are printed.
+// The line is lent and its size stands here, since `judge` promises it so, with the bytes behind it as they were.
 #[derive(Clone, Copy)]
 pub struct Judged {
     pub next: Section,
     pub size: usize,
-}
-
-// Whether a section of n bytes can be a profile. One of no bytes is left out, and has none.
-fn counted(n: u8) -> bool
-    ensures { result ≡ (ltb 0 n && good_size n) }
-{
-    (0 < n) & profile::questions::size(n as usize)
 }
 
 // Whether the profile passes its questions.
@@ -52,103 +46,73 @@ fn accepted(p: Profile) -> bool
         output: 0,
         subword: 0,
     };
-    match profile::questions::judge(Caller::Card, l, p) {
-        Parsed::Accepted(_) => true,
-        Parsed::Refused(_) => false,
+    profile::questions::judge(Caller::Card, l, p).is_ok()
+}
+
+impl Section {
+    // Whether a card can lead to the section. A profile of no bytes is left out, and has none.
+    fn good(self) -> bool
+        ensures { result ≡ Good self }
+    {
+        match self {
+            Section::Size | Section::End | Section::Over => true,
+            Section::Bytes(n) => (0 < n) & profile::questions::size(n as usize),
+            Section::Count(p) => accepted(p),
+            Section::Block(p, i, of) => i < of && accepted(p),
+        }
     }
-}
 
-// Whether block i out of k can come.
-fn numbered(p: Profile, i: u16, k: u16) -> bool
-    ensures { result ≡ ltb i k && accepts p }
-{
-    if i < k {
-        return accepted(p);
+    // A section that no card leads to is taken for the last: all is printed.
+    pub fn known(self) -> Section
+        ensures { result ≡ Known self }
+    {
+        if self.good() { self } else { Section::Over }
     }
-    false
-}
 
-// Whether a card can lead to the section.
-fn good(s: Section) -> bool
-    ensures { result ≡ Good s }
-{
-    match s {
-        Section::Size => true,
-        Section::Bytes(n) => counted(n),
-        Section::Count(p) => accepted(p),
-        Section::Block(p, i, k) => numbered(p, i, k),
-        Section::End => true,
-        Section::Over => true,
+    // How many bytes the section has.
+    pub fn size(self) -> usize
+        ensures value { result ≡ SizeOf self }
+        ensures most { Good self ≡ true → result ≤ 2040 }
+    {
+        match self {
+            Section::Size | Section::End => 1,
+            Section::Bytes(n) => n as usize,
+            Section::Count(_) => 2,
+            Section::Block(p, _, _) => p.block_size(),
+            Section::Over => 0,
+        }
     }
-}
 
-// A section that no card leads to is taken for the last: all is printed.
-pub fn known(s: Section) -> Section
-    ensures { result ≡ Known s }
-{
-    if good(s) {
-        return s;
+    // How many bytes come next: 0 where no card leads to the section.
+    pub fn wanted(self) -> usize
+        ensures value { result ≡ Wanted self }
+        ensures most { result ≤ 2040 }
+    {
+        self.known().size()
     }
-    Section::Over
-}
 
-// How many bytes the section has.
-pub fn size(s: Section) -> usize
-    ensures value { result ≡ SizeOf s }
-    ensures most { Good s ≡ true → result ≤ 2040 }
-{
-    match s {
-        Section::Size => 1,
-        Section::Bytes(n) => n as usize,
-        Section::Count(_) => 2,
-        Section::Block(p, _, _) => p.block_size(),
-        Section::End => 1,
-        Section::Over => 0,
+    // Whether all is printed.
+    pub fn is_over(self) -> bool
+        ensures { result ≡ over self }
+    {
+        matches!(self, Section::Over)
     }
-}
 
-// How many bytes come next: 0 where no card leads to the section.
-pub fn wanted(s: Section) -> usize
-    ensures value { result ≡ Wanted s }
-    ensures most { result ≤ 2040 }
-{
-    size(known(s))
-}
-
-// How many kinds of sections are left, this one among them.
-fn kinds(s: Section) -> u8
-    ensures { result ≡ Kinds s }
-{
-    match s {
-        Section::Size => 5,
-        Section::Bytes(_) => 4,
-        Section::Count(_) => 3,
-        Section::Block(_, _, _) => 2,
-        Section::End => 1,
-        Section::Over => 0,
+    // Whether a card may end here.
+    pub fn may_end(self) -> bool
+        ensures { result ≡ ends self }
+    {
+        matches!(self, Section::End | Section::Over)
     }
-}
 
-// Whether all is printed.
-pub fn is_over(s: Section) -> bool
-    ensures { result ≡ over s }
-{
-    kinds(s) == 0
-}
-
-// Whether a card may end here.
-pub fn may_end(s: Section) -> bool
-    ensures { result ≡ ends s }
-{
-    kinds(s) <= 1
-}
-
-// The section of block i out of k, or the end if there is no such block.
-pub fn block_or_end(p: Profile, i: u16, k: u16) -> Section
-    ensures { result ≡ from p i k }
-{
-    if i < k {
-        return Section::Block(p, i, k);
+    // The section of block i out of k, or the end if there is no such block.
+    pub fn block_or_end(p: Profile, i: u16, k: u16) -> Section
+        ensures { result ≡ from p i k }
+    {
+        if i < k {
+            Section::Block(p, i, k)
+        } else {
+            Section::End
+        }
     }
-    Section::End
 }

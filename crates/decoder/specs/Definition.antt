@@ -10,7 +10,7 @@
 --   report_of r       what is reported
 --   Gives f r o e a   that is what the reading a gives for the result r, the output being o before and e in the end;
 --                     GivesData: the output being for the data
-use Rattle.std.specs.Prelude.{ℕ, ◌≡◌, List, map, length}
+use Rattle.std.specs.Prelude.{ℕ, ◌≡◌, List, map, length, Ok, Err}
 use Rattle.field.specs.Field.{byte}
 use Rattle.series.specs.Series.{Series}
 use Rattle.series.specs.Array.{bytes}
@@ -18,11 +18,7 @@ use Rattle.series.specs.Word.{word}
 use Rattle.profile.specs.declared.Profile.{Profile}
 use Rattle.profile.specs.declared.Refusal.{Refusal}
 use Rattle.profile.specs.declared.Refusal.TheVariants.{Unsettled, NotCodeword}
-use Rattle.profile.specs.declared.Parsed.{Parsed}
-use Rattle.profile.specs.declared.Parsed.TheVariants.{Accepted, Refused}
-use Rattle.profile.specs.declared.Answer.{Answer}
-use Rattle.profile.specs.declared.Answer.TheVariants as answer
-use Rattle.profile.specs.Definition.{block_size}
+use Rattle.profile.specs.Definition.{Parsed, Answer, block_size}
 use Rattle.profile.specs.Questions.{reading_of, extracting}
 use Rattle.block.specs.Gather.{data_of}
 use Rattle.solver.specs.declared.Form.{Form}
@@ -43,8 +39,8 @@ concluded p (failed r) = refused (Unsettled r)
 concluded p foreign = refused NotCodeword
 
 abbrev pub result_of : Parsed → List ℕ → Result
-result_of (Accepted p) y = concluded p (decode p (bytes y))
-result_of (Refused q) y = refused q
+result_of (Ok p) y = concluded p (decode p (bytes y))
+result_of (Err q) y = refused q
 
 abbrev pub reading : List ℕ → List ℕ → ℕ → Result
 reading b y o = result_of (reading_of b (length y) o) y
@@ -55,8 +51,8 @@ extraction b y o = result_of (extracting b (length y) o) y
 -- ---- what is said of a result
 
 abbrev pub answer_to : Result → Answer
-answer_to (read p s x) = answer.Accepted
-answer_to (refused q) = answer.Refused q
+answer_to (read p s x) = Ok tt
+answer_to (refused q) = Err q
 
 -- a refusal leaves the output as it was
 abbrev pub block_of : Result → List ℕ → List ℕ

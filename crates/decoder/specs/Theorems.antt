@@ -16,7 +16,7 @@
 -- touched always (read-written); the answer is 8 exactly if decoding fails (read_fails), where no mistake is made
 -- exactly if too many subwords have too many changes (read_fails_exactly). Two readings of the same bytes that differ
 -- in the form alone end alike (alike).
-use Rattle.std.specs.Prelude.{ℕ, ◌+◌, ◌*◌, ◌≤◌, ◌<◌, ◌≡◌, refl, not, ◌↔◌, List, map, length, get_or}
+use Rattle.std.specs.Prelude.{ℕ, ◌+◌, ◌*◌, ◌≤◌, ◌<◌, ◌≡◌, refl, not, ◌↔◌, List, map, length, get_or, Ok, Err}
 use Rattle.std.proofs.Common.{sym, ap, ◌∙◌, subst, arith}
 use Rattle.std.proofs.Math.Decide.{dec_lt}
 use Rattle.std.specs.Int.Bits.{bit_xor}
@@ -29,10 +29,7 @@ use Rattle.series.specs.Word.{entry, word, weight, entry_past, word_cut}
 use Rattle.key_equation.specs.Run.{joined}
 use Rattle.profile.specs.declared.Profile.{Profile}
 use Rattle.profile.specs.declared.Refusal.TheVariants.{Unsettled}
-use Rattle.profile.specs.declared.Parsed.{Parsed}
-use Rattle.profile.specs.declared.Parsed.TheVariants.{Accepted, Refused}
-use Rattle.profile.specs.declared.Answer.TheVariants as answer
-use Rattle.profile.specs.Definition.{capability, first-root, block_size, data_size}
+use Rattle.profile.specs.Definition.{Parsed, capability, first-root, block_size, data_size}
 use Rattle.profile.specs.declared.questions.Caller.TheVariants.{Decoder, Card}
 use Rattle.profile.specs.Questions.{profile_of, reading_of}
 use Rattle.profile.specs.QuestionsLaws.{admitted-profile}
@@ -67,7 +64,7 @@ use Rattle.decoder.specs.Definition.{answer_to, block_of, report_of, Gives}
 -- ---- accepted profiles
 
 pub record Profiled (b : List ℕ) (p : Profile) (n : ℕ) : Type 0 where
-  pub profile : profile_of b ≡ Accepted p
+  pub profile : profile_of b ≡ Ok p
   pub small : (i : ℕ) → get_or b i 0 < 256
   pub size : n ≡ block_size p
 
@@ -79,7 +76,7 @@ pub reading-is : (b : List ℕ) (p : Profile) (y : List ℕ) (o : ℕ) → Profi
 reading-is b p y o j e =
     ap (λ a. result_of a y) (reading-admitted b (length y) o p j.profile j.size (e ∙ j.size))
 
-pub extraction-is : (b : List ℕ) (p : Profile) (y : List ℕ) (o : ℕ) → profile_of b ≡ Accepted p
+pub extraction-is : (b : List ℕ) (p : Profile) (y : List ℕ) (o : ℕ) → profile_of b ≡ Ok p
     → length y ≡ block_size p → o ≡ data_size p
     → extraction b y o ≡ concluded p (decode p (bytes y))
 extraction-is b p y o profile size room =
@@ -92,15 +89,15 @@ pub record Accepts (b y : List ℕ) (o : ℕ) : Type 0 where
   pub p : Profile
   pub block : Series
   pub report : staged.Report
-  pub profile : profile_of b ≡ Accepted p
+  pub profile : profile_of b ≡ Ok p
   pub decoded : decode p (bytes y) ≡ accepted block report
   pub is : reading b y o ≡ read p block report
 
-pub read-accepts : (b y : List ℕ) (o : ℕ) → answer_to (reading b y o) ≡ answer.Accepted → Accepts b y o
+pub read-accepts : (b y : List ℕ) (o : ℕ) → answer_to (reading b y o) ≡ Ok tt → Accepts b y o
 read-accepts b y o e = go (reading_of b (length y) o) refl e
   where
-    outcome : (p : Profile) → reading_of b (length y) o ≡ Accepted p → (z : Outcome) → decode p (bytes y) ≡ z
-        → answer_to (concluded p z) ≡ answer.Accepted
+    outcome : (p : Profile) → reading_of b (length y) o ≡ Ok p → (z : Outcome) → decode p (bytes y) ≡ z
+        → answer_to (concluded p z) ≡ Ok tt
         → Accepts b y o
     outcome p q (accepted s x) d e = record {
       p = p;
@@ -113,9 +110,9 @@ read-accepts b y o e = go (reading_of b (length y) o) refl e
     outcome p q (failed r) d e = let z : ◌≡◌ {A = ℕ} 0 1 = cc in absurd (omega arith)
     outcome p q foreign d e = let z : ◌≡◌ {A = ℕ} 0 1 = cc in absurd (omega arith)
 
-    go : (a : Parsed) → reading_of b (length y) o ≡ a → answer_to (result_of a y) ≡ answer.Accepted → Accepts b y o
-    go (Accepted p) q e = outcome p q (decode p (bytes y)) refl e
-    go (Refused r) q e = let z : ◌≡◌ {A = ℕ} 0 1 = cc in absurd (omega arith)
+    go : (a : Parsed) → reading_of b (length y) o ≡ a → answer_to (result_of a y) ≡ Ok tt → Accepts b y o
+    go (Ok p) q e = outcome p q (decode p (bytes y)) refl e
+    go (Err r) q e = let z : ◌≡◌ {A = ℕ} 0 1 = cc in absurd (omega arith)
 
 -- ---- codewords
 
@@ -126,8 +123,8 @@ block-is p s = bytes_word (word (block_size p) s) ∙ word_cut (block_size p) s
 cut_agrees : (p : Profile) (s : Series) → Agree p 0 s (cut (block_size p) s)
 cut_agrees p s = agree-block p 0 s (cut (block_size p) s) (λ k _ l. sym (cut_low (block_size p) s k l))
 
-pub read-codeword : (b y o : List ℕ) → answer_to (reading b y (length o)) ≡ answer.Accepted
-    → (p : Profile) × (profile_of b ≡ Accepted p) × Codeword p (bytes (block_of (reading b y (length o)) o))
+pub read-codeword : (b y o : List ℕ) → answer_to (reading b y (length o)) ≡ Ok tt
+    → (p : Profile) × (profile_of b ≡ Ok p) × Codeword p (bytes (block_of (reading b y (length o)) o))
 read-codeword b y o e =
     let a = read-accepts b y (length o) e in
     let code = codeword_cong a.p a.block (cut (block_size a.p) a.block) (cut_agrees a.p a.block)
@@ -165,8 +162,8 @@ bit_differences-agree p y s t same i h =
     (λ q l. ap (λ v. ones (bit_xor (byte (subword p.length y i q)) (byte v))) (same i (omega arith) h q l))
 
 pub read_reports : (f : Form) (b y o e : List ℕ) (a : Reading) → Gives f (reading b y (length o)) o e a
-    → a.answer ≡ answer.Accepted
-    → (p : Profile) × (profile_of b ≡ Accepted p) × Codeword p (bytes e) × Reports p y e a
+    → a.answer ≡ Ok tt
+    → (p : Profile) × (profile_of b ≡ Ok p) × Codeword p (bytes e) × Reports p y e a
 unfolding report
 read_reports f b y o e a g answered =
     let says = sym g.answer ∙ answered in
@@ -221,8 +218,8 @@ pub record Solved (f : Form) (p : Profile) (y e : List ℕ) (i s : ℕ) (solver 
   pub within : weight p.length (changes p y e i) ≤ capability p s
 
 pub read_solved : (f : Form) (b y o e : List ℕ) (a : Reading) → Gives f (reading b y (length o)) o e a
-    → a.answer ≡ answer.Accepted → ((i : ℕ) → get_or b i 0 < 256)
-    → (p : Profile) → profile_of b ≡ Accepted p → (i c s : ℕ) (l : Line) → Has a.report.lines i l
+    → a.answer ≡ Ok tt → ((i : ℕ) → get_or b i 0 < 256)
+    → (p : Profile) → profile_of b ≡ Ok p → (i c s : ℕ) (l : Line) → Has a.report.lines i l
     → l.verdict ≡ Corrected c s
     → Solved f p y e i s l.solver
 unfolding subword
@@ -232,7 +229,7 @@ read_solved f b y o e a g answered small p profile i c s l has corrected = go (d
     x = read-accepts b y (length o) (sym g.answer ∙ answered)
 
     same : x.p ≡ p
-    same = let e : Accepted x.p ≡ Accepted p = sym x.profile ∙ profile in cc
+    same = let e : Ok x.p ≡ Ok p = sym x.profile ∙ profile in cc
 
     decoded : decode p (bytes y) ≡ accepted x.block x.report
     decoded = subst (λ p. decode p (bytes y) ≡ accepted x.block x.report) same x.decoded
@@ -291,7 +288,7 @@ module _ (b : List ℕ) (p : Profile) (c y o : List ℕ) (j : Profiled b p (leng
     (small : (i : ℕ) → get_or c i 0 < 256) where
   -- c was written and y is read
   pub read_restores : Restorable p (bytes c) (bytes y)
-      → (answer_to (reading b y (length o)) ≡ answer.Accepted) × (block_of (reading b y (length o)) o ≡ c)
+      → (answer_to (reading b y (length o)) ≡ Ok tt) × (block_of (reading b y (length o)) o ≡ c)
       × Restored p (bytes c) (bytes y) (report_of (reading b y (length o)))
   read_restores r =
       let (x, e, f) = restoring-bytes p (profiled-valid b p (length y) j) c y (same ∙ j.size) j.size r in
@@ -300,7 +297,7 @@ module _ (b : List ℕ) (p : Profile) (c y o : List ℕ) (j : Profiled b p (leng
 pub read-written : (b : List ℕ) (p : Profile) (c o : List ℕ) → Profiled b p (length c) → length o ≡ length c
     → ((i : ℕ) → get_or c i 0 < 256)
     → Codeword p (bytes c)
-    → (answer_to (reading b c (length o)) ≡ answer.Accepted) × (block_of (reading b c (length o)) o ≡ c)
+    → (answer_to (reading b c (length o)) ≡ Ok tt) × (block_of (reading b c (length o)) o ≡ c)
     × (report_of (reading b c (length o)) ≡ untouched)
 read-written b p c o j room small code =
     rw (reading-is b p c (length o) j room, decode-codeword p (profiled-valid b p (length c) j) (bytes c) code)
@@ -310,7 +307,7 @@ read-written b p c o j room small code =
 
 module _ (b : List ℕ) (p : Profile) (y : List ℕ) (o : ℕ) (j : Profiled b p (length y))
     (room : o ≡ length y) (s : ℕ) where
-  pub read_fails : answer_to (reading b y o) ≡ answer.Refused (Unsettled s) ↔ Fails p (bytes y) s
+  pub read_fails : answer_to (reading b y o) ≡ Err (Unsettled s) ↔ Fails p (bytes y) s
   read_fails = (
     λ e. (failed_course p (bytes y) s).0 (to (decode p (bytes y)) (ap answer_to (sym is) ∙ e)),
     λ f. ap answer_to (is ∙ ap (concluded p) ((failed_course p (bytes y) s).1 f)),
@@ -319,14 +316,14 @@ module _ (b : List ℕ) (p : Profile) (y : List ℕ) (o : ℕ) (j : Profiled b p
       is : reading b y o ≡ concluded p (decode p (bytes y))
       is = reading-is b p y o j room
 
-      to : (z : Outcome) → answer_to (concluded p z) ≡ answer.Refused (Unsettled s) → z ≡ failed s
+      to : (z : Outcome) → answer_to (concluded p z) ≡ Err (Unsettled s) → z ≡ failed s
       to (accepted d x) e = let z : ◌≡◌ {A = ℕ} 0 1 = cc in absurd (omega arith)
       to (failed r) e = let q : r ≡ s = cc in ap failed q
       to foreign e = let z : ◌≡◌ {A = ℕ} 0 1 = cc in absurd (omega arith)
 
   -- c was written
   pub read_fails_exactly : (c : Series) → Unmistaken p c (bytes y)
-      → answer_to (reading b y o) ≡ answer.Refused (Unsettled s) ↔ TooMany p c (bytes y) s
+      → answer_to (reading b y o) ≡ Err (Unsettled s) ↔ TooMany p c (bytes y) s
   read_fails_exactly c u =
       let exact = failing_exactly p (profiled-valid b p (length y) j) c (bytes y) u s in
       let course = failed_course p (bytes y) s in

@@ -16,7 +16,7 @@ ghost use Rattle.decoder.specs.Definition.{report_of, Gives, GivesData};
 
 use crate::prepared::Reading;
 use profile::questions::Caller;
-use profile::{Answer, Parsed, Profile};
+use profile::{Profile, Refusal};
 use solver::Form;
 
 // Makes the tables of an accepted profile, and reads a block by them.
@@ -41,17 +41,17 @@ pub fn decode(profile: &[u8], input: &[u8], out: &mut [u8], form: Form) -> Readi
         (report_of (reading profile.now input.now (length out.old))) result.report }
 {
     match profile::questions::admit(Caller::Decoder, profile, input.len(), out.len(), 0) {
-        Parsed::Accepted(p) => read(p, form, input, out),
-        Parsed::Refused(q) => crate::prepared::refuse(q, form, out),
+        Ok(p) => read(p, form, input, out),
+        Err(q) => crate::prepared::refuse(q, form, out),
     }
 }
 
 // Copies the data of a block that was accepted. A refusal leaves every byte of the output.
-fn hand_out(p: Profile, a: Answer, block: &[u8], out: &mut [u8])
+fn hand_out(p: Profile, a: Result<(), Refusal>, block: &[u8], out: &mut [u8])
     requires { Fits p block.now × (length out.old ≡ DataSize p) }
     ensures { out.new ≡ unless_refused a (data_of p block.now) out.old }
 {
-    if a.number() != 0 {
+    if a.is_err() {
         return;
     }
     block::gather::gather(p, block, out);
@@ -82,7 +82,7 @@ pub fn extract(profile: &[u8], input: &[u8], out: &mut [u8], form: Form) -> Read
         (extraction profile.now input.now (length out.old))) result.report }
 {
     match profile::questions::admit(Caller::Extract, profile, input.len(), out.len(), 0) {
-        Parsed::Accepted(p) => read_data(p, form, input, out),
-        Parsed::Refused(q) => crate::prepared::refuse(q, form, out),
+        Ok(p) => read_data(p, form, input, out),
+        Err(q) => crate::prepared::refuse(q, form, out),
     }
 }

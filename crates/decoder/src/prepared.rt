@@ -1,6 +1,6 @@
 // Reading a block of an accepted profile: staged decoding, the block with its report, or a refusal. What the promises
 // speak of stands in specs/Definition.antt.
-ghost use Rattle.std.specs.Prelude.{◌*◌, ◌≡◌, true, length};
+ghost use Rattle.std.specs.Prelude.{◌*◌, ◌≡◌, IfOk, length};
 ghost use Rattle.series.specs.Series.{Series};
 ghost use Rattle.series.specs.Array.{bytes};
 ghost use Rattle.block.specs.Parts.{Fits};
@@ -15,28 +15,29 @@ ghost use Rattle.decoder.specs.Definition.{concluded, Gives};
 
 use field::Gf;
 use polynomial::SYNDROMES;
-use profile::{Answer, Profile, Refusal, SUBWORDS, SYMBOLS};
+use profile::{Profile, Refusal, SUBWORDS, SYMBOLS};
 use solver::Form;
 use stages::Ending;
 use stages::report::Report;
 
 // What a reading hands back: the answer, and the report, which is the empty one for a refusal.
+// No Result: a refusal has a report too (FORMAT 7.6), which the clauses `report` of `decode` and `extract` promise.
 #[derive(Clone, Copy)]
 pub struct Reading {
-    pub answer: Answer,
+    pub answer: Result<(), Refusal>,
     pub report: Report,
 }
 
 // A refusal leaves every byte of the output.
 pub fn refuse(q: Refusal, form: Form, out: &mut [u8]) -> Reading
-    ensures answer { result.answer ≡ Answer.Refused q }
+    ensures answer { result.answer ≡ Err q }
     ensures same { out.new ≡ out.old }
     ensures report { Tells form untouched result.report }
 {
     let report = stages::report::empty(form);
     Reading {
-        answer: Answer::Refused(q),
-        report: report,
+        answer: Err(q),
+        report,
     }
 }
 
@@ -48,23 +49,31 @@ pub fn blank() -> [u8; SYMBOLS]
 }
 
 // What is answered where decoding ended: the block goes out if every subword is settled and it is a codeword.
-fn conclude(p: Profile, form: Form, u: &[u64], e: Ending, block: &[u8], out: &mut [u8]) -> Reading
+fn conclude(
+    p: Profile,
+    form: Form,
+    u: &[u64],
+    e: Result<Ending, Ending>,
+    block: &[u8],
+    out: &mut [u8],
+) -> Reading
     requires { Fits p block.now × (length out.old ≡ length block.now) × Further p u.now
-        × (e.settled ≡ true → Subwords p (bytes block.now) × Counted p.subwords e.lines) }
+        × IfOk e (λ e. Subwords p (bytes block.now) × Counted p.subwords e.lines) }
     ensures { (y : Series) → Reached p form y (bytes block.now) e
         → Gives form (concluded p (Decode p y)) out.old out.new result }
 {
-    if !e.settled {
-        return refuse(Refusal::Unsettled(e.stage), form, out);
-    }
+    let end = match e {
+        Ok(end) => end,
+        Err(end) => return refuse(Refusal::Unsettled(end.stage), form, out),
+    };
     if !block::codeword::is_codeword(p, u, block) {
         return refuse(Refusal::NotCodeword, form, out);
     }
     kernel::copy(block, out);
-    let lines = e.lines;
+    let lines = end.lines;
     Reading {
-        answer: Answer::Accepted,
-        report: stages::report::summed(lines, p.subwords as usize, e.stage),
+        answer: Ok(()),
+        report: stages::report::summed(lines, p.subwords as usize, end.stage),
     }
 }
 
@@ -99,7 +108,7 @@ pub fn read(p: Profile, form: Form, t: &[u64], u: &[u64], input: &[u8], out: &mu
     if block::codeword::is_clean(p, u, syndromes, input) {
         kernel::copy(input, out);
         return Reading {
-            answer: Answer::Accepted,
+            answer: Ok(()),
             report: stages::report::empty(form),
         };
     }

@@ -13,7 +13,7 @@ use Rattle.series.specs.Series.{Series, K, Z, ◌⊞◌, ◌⊠◌}
 use Rattle.series.specs.Shift.{zpow, drop}
 use Rattle.series.specs.Array.{bytes}
 use Rattle.divider.specs.declared.packed.Packed.{Packed}
-use Rattle.divider.specs.Packed.{packed, six-zero}
+use Rattle.divider.specs.Packed.{packed, none, six-zero}
 use Rattle.divider.specs.Multiples.{Rows, lower, Multiples}
 use Rattle.divider.specs.DivisionRemainder.{feed, remainder, remainder-start, remainder-step}
 
@@ -33,10 +33,6 @@ pub record Leaving (row : Rows) (t : List ℕ) (from : ℕ) (l : List ℕ) (p : 
   pub low : from ≤ p
   pub high : p ≤ length l
   pub leaves : Leaves row t p l r
-
--- no word is set before the first symbol
-abbrev pub none : Packed
-none = record { 0 = 0; 1 = 0; 2 = 0; 3 = 0; 4 = 0; 5 = 0 }
 
 module _ {row : Rows} {t : List ℕ} {from : ℕ} {l : List ℕ} {p : ℕ} where
   pub leaving-none : length l ≡ p → from ≤ p → Leaving row t from l p none

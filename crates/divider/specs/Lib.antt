@@ -1,3 +1,5 @@
+-- what is said of each of some words.
+pub mod Each
 -- packed: `packed`, `tops`: what the promises speak of.
 pub mod Packed
 -- multiples: `rows`, `Multiples` and `lower` of Multiples are what the promises speak of.

@@ -3,16 +3,16 @@
 --   wide t f          row f of the table t in rows of six words
 --   narrow t f        the same in rows of four words: the upper ones, above zeros
 --   rows k            the rows of a table for degree k: narrow up to 32, wide above
---   Slim k r          what a row for degree k does not hold of r is zero
+--   Spare n r         the first n symbols of r are zero
 --   lower row t       row 1: the lower coefficients of the polynomial z^48 + lower row t that the table is for
 --   Multiples row t   t is such a table
 use Rattle.std.specs.Prelude.{ℕ, ◌+◌, ◌*◌, ◌≤◌, ◌<◌, ◌≡◌, refl, List, length, get_or}
 use Rattle.std.proofs.Math.Decide.{dec_le}
 use Rattle.std.proofs.Common.{arith}
-use Rattle.field.specs.Field.{of}
+use Rattle.field.specs.Field.{𝟎, of}
 use Rattle.series.specs.Series.{Series, K, ◌⊠◌}
 use Rattle.divider.specs.declared.packed.Packed.{Packed}
-use Rattle.divider.specs.Packed.{six, packed, tops}
+use Rattle.divider.specs.Packed.{six, packed}
 
 abbrev pub Rows : Type 0
 Rows = List ℕ → ℕ → Series
@@ -48,8 +48,8 @@ rows-wide k h = go (dec_le k 32)
     go (yes l) = absurd (omega arith)
     go (no _) = refl
 
-abbrev pub Slim : ℕ → Packed → Type 0
-Slim k r = k ≤ 32 → packed r ≡ tops r
+abbrev pub Spare : ℕ → Packed → Type 0
+Spare n r = (i : ℕ) → i < n → packed r i ≡ 𝟎
 
 unfoldable pub lower : Rows → List ℕ → Series
 lower row t = row t 1

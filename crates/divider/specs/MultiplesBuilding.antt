@@ -5,20 +5,20 @@
 --   Added row w i r t u   u is t with the first i rows, r added to each, from row w on
 --   Built row low w m t   the first w rows of the table of low, w a power of two, and w times low in m
 --
--- Proved: pairs of stores write a row (wrote-narrow, wrote-wide). A loop that adds r to rows goes on by added_more; a
--- loop that doubles the number of rows goes on by built-more, with multiples that fit into narrow rows (built_slim),
--- and ends with a table (built-all).
+-- Proved: pairs of stores write a row (written-narrow, written-wide). A loop that adds r to rows goes on by added_more;
+-- a loop that doubles the number of rows goes on by built-more, with multiples that are zero where a row stores nothing
+-- (built-spare, spare-sum), and ends with a table (built-all).
 use Rattle.std.specs.Prelude.{ℕ, ◌+◌, ◌-◌, ◌*◌, ◌≤◌, ◌<◌, ◌≡◌, refl, ◌≢◌, List, length, get_or, set}
 use Rattle.std.proofs.Common.{sym, ap, ap₂, ◌∙◌, arith, length-set, get_or-set_same, get_or-set_other}
 use Rattle.std.proofs.Math.Decide.{dec_lt, ℕ_discrete}
-use Rattle.field.specs.Field.{F, 𝟎, α, ◌⊙◌, of, of_zero, of_one, ⊙-zero}
+use Rattle.field.specs.Field.{F, 𝟎, α, ◌⊕◌, ◌⊙◌, of, of_zero, of_one, zero-⊕, ⊙-zero}
 use Rattle.field.proofs.Field.{of_double}
-use Rattle.series.specs.Series.{Series, K, ◌⊞◌, ◌⊠◌, ⊠-ring, one-⊠, zero-⊠, K-zero, K-⊠-at}
+use Rattle.series.specs.Series.{Series, K, ◌⊞◌, ◌⊠◌, ⊠-ring, one-⊠, zero-⊠, K-zero, K-⊠-at, ⊞-at, O-at}
 use Rattle.series.specs.Array.{bytes}
 use Rattle.kernel.specs.Power.{Power, power-one, power-more, power-high}
 use Rattle.divider.specs.declared.packed.Packed.{Packed}
-use Rattle.divider.specs.Packed.{Word, six, six-zero, packed, packed-tops}
-use Rattle.divider.specs.Multiples.{Rows, wide, narrow, rows, rows-narrow, rows-wide, Slim, lower, Multiples}
+use Rattle.divider.specs.Packed.{six, six-zero, packed, none}
+use Rattle.divider.specs.Multiples.{Rows, wide, narrow, Spare, lower, Multiples}
 
 -- ---- two words written
 
@@ -44,7 +44,7 @@ pub record Written (row : Rows) (f : ℕ) (r : Series) (t u : List ℕ) : Type 0
   pub here : row u f ≡ r
   pub other : (g : ℕ) → g ≢ f → row u g ≡ row t g
 
-written-narrow : {t u v : List ℕ} (f a b c d : ℕ) → Two (f * 4) a b t u → Two (f * 4 + 2) c d u v
+pub written-narrow : {t u v : List ℕ} (f a b c d : ℕ) → Two (f * 4) a b t u → Two (f * 4 + 2) c d u v
     → Written narrow f (six 0 0 a b c d) t v
 written-narrow {t} {u} {v} f a b c d p q =
     record {
@@ -71,7 +71,7 @@ written-narrow {t} {u} {v} f a b c d p q =
     kept : (g k : ℕ) → g ≢ f → g * 4 ≤ k → k < g * 4 + 4 → get_or v k 0 ≡ get_or t k 0
     kept g k n lo hi = q.other k (omega arith) (omega arith) ∙ p.other k (omega arith) (omega arith)
 
-written-wide : {t u v x : List ℕ} (f a b c d e h : ℕ) → Two (f * 6) a b t u → Two (f * 6 + 2) c d u v
+pub written-wide : {t u v x : List ℕ} (f a b c d e h : ℕ) → Two (f * 6) a b t u → Two (f * 6 + 2) c d u v
     → Two (f * 6 + 4) e h v x
     → Written wide f (six a b c d e h) t x
 written-wide {t} {u} {v} {x} f a b c d e h p q r =
@@ -111,17 +111,6 @@ written-wide {t} {u} {v} {x} f a b c d e h p q r =
     kept g k n lo hi =
         r.other k (omega arith) (omega arith) ∙ q.other k (omega arith) (omega arith)
         ∙ p.other k (omega arith) (omega arith)
-
--- the words of r that a row for degree k holds
-pub wrote-narrow : {t u v : List ℕ} (k f : ℕ) (r : Packed) → k ≤ 32 → Slim k r → Two (f * 4) r.2 r.3 t u
-    → Two (f * 4 + 2) r.4 r.5 u v
-    → Written (rows k) f (packed r) t v
-wrote-narrow k f r h s p q = rw (rows-narrow k h, s h) (written-narrow f r.2 r.3 r.4 r.5 p q)
-
-pub wrote-wide : {t u v x : List ℕ} (k f : ℕ) (r : Packed) → 32 < k → Two (f * 6) r.0 r.1 t u
-    → Two (f * 6 + 2) r.2 r.3 u v
-    → Two (f * 6 + 4) r.4 r.5 v x → Written (rows k) f (packed r) t x
-wrote-wide k f r h p q o = rw (rows-wide k h) (written-wide f r.0 r.1 r.2 r.3 r.4 r.5 p q o)
 
 -- ---- rows added to
 
@@ -198,10 +187,16 @@ built-all row low w m t p h =
     one : row t 1 ≡ low
     one = p.at 1 (omega arith) ∙ ap (λ (a : F). K a ⊠ low) of_one ∙ one-⊠ low
 
--- zeros below degree k: the multiple that is added holds none there either
-pub built_slim : {row : Rows} {low : Series} {w : ℕ} {m t : List ℕ} (k : ℕ) (r : Packed) → Built row low w m t → w < 256
-    → ((i : ℕ) → i < 48 - k → low i ≡ 𝟎) → Word r.0 → Word r.1 → packed r ≡ bytes m → Slim k r
-built_slim {row} {low} {w} {m} {t} k r p h z h0 h1 e l =
-    packed-tops r.0 r.1 r.2 r.3 r.4 r.5 h0 h1 (λ i b.
+-- the multiple that is added is zero where the polynomial is
+pub built-spare : {row : Rows} {low : Series} {w : ℕ} {m t : List ℕ} (n : ℕ) (r : Packed)
+    → Built row low w m t → w < 256 → ((i : ℕ) → i < n → low i ≡ 𝟎) → packed r ≡ bytes m → Spare n r
+built-spare {row} {low} {w} {m} {t} n r p h z e i l =
     ap (λ (f : Series). f i) (e ∙ p.top h) ∙ K-⊠-at (of w) low i
-    ∙ ap (λ (s : F). of w ⊙ s) (z i (omega arith)) ∙ ⊙-zero (of w))
+    ∙ ap (λ (s : F). of w ⊙ s) (z i l) ∙ ⊙-zero (of w)
+
+pub spare-sum : (n : ℕ) (a b c : Packed) → Spare n a → Spare n b → packed c ≡ packed a ⊞ packed b → Spare n c
+spare-sum n a b c p q e i h =
+    ap (λ (f : Series). f i) e ∙ ⊞-at (packed a) (packed b) i ∙ ap₂ ◌⊕◌ (p i h) (q i h) ∙ zero-⊕ 𝟎
+
+pub spare-zero : (n : ℕ) → Spare n none
+spare-zero n i h = ap (λ (f : Series). f i) six-zero ∙ O-at i

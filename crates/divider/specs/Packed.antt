@@ -7,11 +7,12 @@
 --   six a b c d e f  forty-eight symbols in six words
 --   packed r         the same for a `Packed`
 --   tops r           the same without its first two words: zeros for these
+--   none             no word is set
 --
 -- Proved: exclusive or of words is the sum (six-xor); a shift by one symbol, with the symbol that falls out of a word
 -- carried into the next, is the product with z (six-up, six_shifted); the last symbol (six-top); zeros in the first two
--- words (packed-tops); a word from its symbols, the last first (pack-more), six words from 48 symbols (six_pack) and
--- back (six_spread).
+-- words (packed-tops, tops-low); a word from its symbols, the last first (pack-more), six words from 48 symbols
+-- (six_pack) and back (six_spread).
 use Rattle.std.specs.Prelude.{ℕ, zero, suc, ◌+◌, ◌-◌, ◌*◌, ◌/◌, ◌%◌, ◌^◌, ◌<◌, ◌≡◌, refl}
 use Rattle.std.proofs.Common.{sym, ap, ap₂, ◌∙◌, mul_assoc, pow-suc, arith}
 use Rattle.std.proofs.Math.Path.{fun_ext}
@@ -21,7 +22,7 @@ use Rattle.field.specs.Field.{𝟎, ◌⊕◌, of, of_xor, of_zero, of_inj, zero
 use Rattle.field.proofs.Field.{of_mod}
 use Rattle.series.specs.Series.{Series, O, K, Z, ◌⊞◌, ◌⊠◌, tail, ⊠-ring, ⊞_lc, ⊠_comm, O-at, K_at0, K-suc, ⊞-at, ⊞_comm}
 use Rattle.series.specs.Series.{Z-⊠_at0, Z-⊠-at, one-⊠, ⊠_assoc}
-use Rattle.series.specs.Shift.{zpow, drop, cut, zpow-zero, zpow-suc, zpow-add, zpow-at, zpow_divide}
+use Rattle.series.specs.Shift.{zpow, drop, cut, zpow-zero, zpow-suc, zpow-add, zpow-at, zpow_divide, zpow-low}
 use Rattle.series.specs.Shift.{drop_at, drop-none, cut_high, cut_head}
 use Rattle.series.specs.Degree.{below}
 use Rattle.divider.specs.declared.packed.Packed.{Packed}
@@ -138,6 +139,9 @@ packed r = six r.0 r.1 r.2 r.3 r.4 r.5
 abbrev pub tops : Packed → Series
 tops r = six 0 0 r.2 r.3 r.4 r.5
 
+abbrev pub none : Packed
+none = record { 0 = 0; 1 = 0; 2 = 0; 3 = 0; 4 = 0; 5 = 0 }
+
 join-at : (a : ℕ) (f : Series) (i : ℕ) → Word a → join a f (8 + i) ≡ f i
 join-at a f i h = ⊞-at (digits a) _ (8 + i)
     ∙ ap₂ ◌⊕◌ (below-digits a h (8 + i) (omega arith)) (zpow-at 8 f i) ∙ zero-⊕ (f i)
@@ -218,6 +222,12 @@ packed-tops a b c d e f ha hb z =
     rest : drop 16 (six a b c d e f) ≡ join c (join d (join e (digits f)))
     rest = fun_ext (λ i. let s : 16 + i ≡ 8 + (8 + i) = omega arith in
         drop_at 16 _ i ∙ ap (six a b c d e f) s ∙ join-at a _ (8 + i) ha ∙ join-at b _ i hb)
+
+pub tops-low : (a b c d : ℕ) (i : ℕ) → i < 16 → six 0 0 a b c d i ≡ 𝟎
+tops-low a b c d i h = ap (λ (f : Series). f i) shape ∙ zpow-low 16 _ i h
+  where
+    shape : six 0 0 a b c d ≡ zpow 16 ⊠ join a (join b (join c (digits d)))
+    shape = rw (zpow-add 8 8, digits-zero) (simp ⊠-ring)
 
 -- ---- from and to bytes
 

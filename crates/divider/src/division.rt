@@ -1,17 +1,38 @@
 // Remainders by a polynomial of degree 48, packed in words: one row of a lent table a symbol.
 // The rows are narrow up to degree 32 and wide above: that is asked once, outside of the loops.
-ghost use Rattle.std.specs.Prelude.{◌≤◌, ◌≡◌, length};
-ghost use Rattle.divider.specs.Multiples.{rows, Multiples};
+ghost use Rattle.std.specs.Prelude.{◌≤◌, ◌≡◌, All, length};
+ghost use Rattle.field.specs.Field.{of};
+ghost use Rattle.divider.specs.Packed.{packed};
+ghost use Rattle.divider.specs.Multiples.{rows, lower, Multiples};
+ghost use Rattle.divider.specs.DivisionRemainder.{feed};
 ghost use Rattle.divider.specs.DivisionLeaves.{Leaves};
+ghost use Rattle.divider.specs.Each.{Each};
 
-mod narrow;
-mod wide;
-
+use crate::multiples::{Narrow, Wide, Width};
 use crate::packed::Packed;
 
-// The remainders of four words.
-#[derive(Clone, Copy)]
-pub struct Four(pub Packed, pub Packed, pub Packed, pub Packed);
+// Moves the state one symbol up and adds the row that takes the last symbol away.
+fn step<W: Width>(t: &[u64], r: Packed, x: u8) -> Packed
+    requires { Multiples W.row_at t.now }
+    ensures { packed result ≡ feed (lower W.row_at t.now) (packed r) (of x) }
+{
+    crate::packed::shifted(r, W::row(t, crate::packed::index(r, x)))
+}
+
+// What z^48 times the symbols from `from` on leaves of each of some words of length n, from the last symbol down. A
+// pass takes a step of each word: no step waits for another, so the other words are nearly free.
+fn leave<W: Width, const N: usize>(t: &[u64], words: &[&[u8]], n: usize, from: usize) -> [Packed; N]
+    requires { Multiples W.row_at t.now × (from ≤ n) × (length words.now ≡ N) × All (λ w. length w.now ≡ n) words.now }
+    ensures { Each (λ w r. Leaves W.row_at t.now from w.now r) words.now result }
+{
+    let mut out = [Packed(0, 0, 0, 0, 0, 0); N];
+    for p in (from..n).rev() {
+        for i in 0..N {
+            out[i] = step::<W>(t, out[i], words[i][p]);
+        }
+    }
+    out
+}
 
 // What z^48 times the symbols from k on leaves by the polynomial of a table for degree k.
 pub fn remainder(t: &[u64], word: &[u8], k: usize) -> Packed
@@ -19,29 +40,23 @@ pub fn remainder(t: &[u64], word: &[u8], k: usize) -> Packed
     ensures { Leaves (rows k) t.now k word.now result }
 {
     if k <= 32 {
-        return narrow::remainder(t, word, k);
+        leave::<Narrow, 1>(t, &[word], word.len(), k)[0]
+    } else {
+        leave::<Wide, 1>(t, &[word], word.len(), k)[0]
     }
-    wide::remainder(t, word, k)
 }
 
-// What the same leaves of each of four words of one length.
-pub fn remainders(t: &[u64], a: &[u8], b: &[u8], c: &[u8], d: &[u8], k: usize) -> Four
-    requires { Multiples (rows k) t.now × (k ≤ length a.now) × (length b.now ≡ length a.now)
-        × (length c.now ≡ length a.now)
-        × (length d.now ≡ length a.now) }
-    ensures { Leaves (rows k) t.now k a.now result.0
-        × Leaves (rows k) t.now k b.now result.1
-        × Leaves (rows k) t.now k c.now result.2
-        × Leaves (rows k) t.now k d.now result.3 }
+// What the same leaves of each of four words of length n. Wide rows are taken for two words at a time: no more fit
+// into the registers.
+pub fn remainders(t: &[u64], words: [&[u8]; 4], n: usize, k: usize) -> [Packed; 4]
+    requires { Multiples (rows k) t.now × (k ≤ n) × All (λ w. length w.now ≡ n) words }
+    ensures { Each (λ w r. Leaves (rows k) t.now k w.now r) words.entry result }
 {
     if k <= 32 {
-        return narrow::remainders(t, a, b, c, d, k);
+        leave::<Narrow, 4>(t, &words, n, k)
+    } else {
+        let [first, second] = leave::<Wide, 2>(t, &words[..2], n, k);
+        let [third, fourth] = leave::<Wide, 2>(t, &words[2..], n, k);
+        [first, second, third, fourth]
     }
-    let p = wide::remainders(t, a, b, k);
-    let q = wide::remainders(t, c, d, k);
-    let first = p.0;
-    let second = p.1;
-    let third = q.0;
-    let fourth = q.1;
-    Four(first, second, third, fourth)
 }

@@ -1,7 +1,7 @@
 // Values of a short word at the roots, thirty-two at a time; a word's syndromes from its remainder.
-ghost use Rattle.std.specs.Prelude.{◌+◌, ◌-◌, ◌%◌, ◌≤◌, ◌<◌, ◌≡◌, ◌≢◌, true, false, length};
+ghost use Rattle.std.specs.Prelude.{◌+◌, ◌-◌, ◌%◌, ◌≤◌, ◌<◌, ◌≡◌, length};
 ghost use Rattle.field.specs.Field.{◌⊕◌, ◌⊙◌, of};
-ghost use Rattle.series.specs.Series.{O, K, ◌⊠◌};
+ghost use Rattle.series.specs.Series.{K, ◌⊠◌};
 ghost use Rattle.series.specs.Shift.{cut};
 ghost use Rattle.series.specs.Array.{bytes};
 ghost use Rattle.polynomial.specs.Polynomial.{row};
@@ -19,19 +19,6 @@ const ROOTS: [u8; 64] = *b"\x02\x04\x08\x10\x20\x40\x80\x1d\x3a\x74\xe8\xcd\x87\
     \x27\x4e\x9c\x25\x4a\x94\x35\x6a\xd4\xb5\x77\xee\xc1\x9f\x23\x46\
     \x8c\x05\x0a\x14\x28\x50\xa0\x5d\xba\x69\xd2\xb9\x6f\xde\xa1\x5f";
 
-// Whether all symbols are zero: their bits, taken together.
-fn is_zero(word: &[u8]) -> bool
-    ensures { (result ≡ true → bytes word.now ≡ O) × (result ≡ false → bytes word.now ≢ O) }
-{
-    let mut bits: u8 = 0;
-    let mut i: usize = 0;
-    while i < word.len() {
-        bits = bits | word[i];
-        i += 1;
-    }
-    bits == 0
-}
-
 // The 64 roots from α on: the table by what it means, so that no caller sees its entries.
 fn first_roots() -> [u8; 64]
     ensures { bytes result ≡ cut 64 (Root 1) }
@@ -44,10 +31,8 @@ fn times(c: u8, list: [u8; 64]) -> [u8; 64]
     ensures { bytes result ≡ K (of c) ⊠ bytes list }
 {
     let mut out = [0u8; 64];
-    let mut j: usize = 0;
-    while j < 64 {
+    for j in 0..64 {
         out[j] = kernel::multiply(c, list[j]);
-        j += 1;
     }
     out
 }
@@ -72,10 +57,8 @@ fn horner(x: &[u8], i: usize, v: [u8; 32], s: u8) -> [u8; 32]
     ensures { bytes result ≡ cut 32 (λ j. bytes v j ⊙ bytes x.now (i + j) ⊕ of s) }
 {
     let mut out = [0u8; 32];
-    let mut j: usize = 0;
-    while j < 32 {
+    for j in 0..32 {
         out[j] = kernel::multiply(x[i + j], v[j]) ^ s;
-        j += 1;
     }
     out
 }
@@ -86,9 +69,8 @@ fn block(x: &[u8], r: &[u8], i: usize) -> [u8; 32]
     ensures { Lanes (length r.now) (bytes r.now) x.now i result }
 {
     let mut v = [0u8; 32];
-    let mut p: usize = r.len();
-    while p > 0 {
-        p -= 1;
+    for p in (0..r.len()).rev() {
+        // The borrow checker lets no call's result be laid straight into an array.
         let next = horner(x, i, v, r[p]);
         v = next;
     }
@@ -113,19 +95,16 @@ pub fn at_roots(first: usize, r: &[u8], k: usize) -> [Gf; SYNDROMES]
     requires { k ≤ 48 }
     ensures { row result ≡ cut k (Syndrome first (length r.now) (bytes r.now)) }
 {
-    if is_zero(r) {
+    if kernel::is_zero(r) {
         return [Gf::ZERO; SYNDROMES];
     }
     let x = roots(first);
     let mut out = [Gf::ZERO; SYNDROMES];
     let mut v = [0u8; 32];
-    let mut i: usize = 0;
-    while i < k {
+    for i in 0..k {
         let u = lanes(&x, r, i, v);
-        let s = u[i % 32];
-        out[i] = Gf(s);
+        out[i] = Gf(u[i % 32]);
         v = u;
-        i = i + 1;
     }
     out
 }

@@ -33,14 +33,11 @@ fn generator(first: usize, k: usize) -> [u8; SYNDROMES]
     let log = field::logarithms();
     let mut g = [0u8; SYNDROMES];
     let mut e = Exponent(0);
-    let mut j: usize = 0;
-    while j < k {
+    for j in 0..k {
         let up = zech(&power, &log, k - (j + 1));
         let down = zech(&power, &log, j);
         e = Exponent((e.0 + (first + j + 255 + up.0) - down.0) % 255);
-        j += 1;
-        let c = e.power_in(&power);
-        g[SYNDROMES - j] = c.0;
+        g[SYNDROMES - (j + 1)] = e.power_in(&power).0;
     }
     g
 }

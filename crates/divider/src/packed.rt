@@ -19,9 +19,7 @@ fn word(list: &[u8], at: usize) -> u64
     ensures { digits result ≡ cut 8 (drop at (bytes list.now)) }
 {
     let mut w = 0u64;
-    let mut i: usize = 8;
-    while i > 0 {
-        i -= 1;
+    for i in (0..8).rev() {
         w = (w << 8) ^ (list[at + i] as u64);
     }
     w
@@ -47,11 +45,9 @@ fn add_word(w: u64, at: usize, out: &mut [u8])
     ensures { bytes out.new ≡ bytes out.old ⊞ zpow at ⊠ digits w }
 {
     let mut v = w;
-    let mut i: usize = 0;
-    while i < 8 {
-        out[at + i] = out[at + i] ^ ((v % 256) as u8);
+    for i in 0..8 {
+        out[at + i] ^= (v % 256) as u8;
         v = v >> 8;
-        i += 1;
     }
 }
 

@@ -1,11 +1,12 @@
 // One Reed-Solomon word: syndromes, check symbols, the remainder by the generator.
 // What the promises speak of stands in code's specs/Word.antt: `systematic f n k w` is the word w with its k
 // check symbols in place, the first root being α^f.
-ghost use Rattle.std.specs.Prelude.{◌+◌, ◌-◌, ◌≤◌, ◌≡◌, length};
+ghost use Rattle.std.specs.Prelude.{◌+◌, ◌-◌, ◌≤◌, ◌≡◌, All, length};
 ghost use Rattle.series.specs.Series.{◌⊞◌};
 ghost use Rattle.series.specs.Shift.{drop, cut};
 ghost use Rattle.series.specs.Array.{bytes};
 ghost use Rattle.divider.specs.Packed.{packed};
+ghost use Rattle.divider.specs.Each.{Each};
 ghost use Rattle.divider.specs.GeneratorTable.{Table};
 ghost use Rattle.code.specs.Word.{systematic};
 ghost use Rattle.divider.specs.ReedSolomonResidue.{residue as Residue, Residual};
@@ -22,7 +23,7 @@ pub fn encode(t: &[u64], first: usize, k: usize, word: &mut [u8])
     let r = crate::division::remainder(t, word, k);
     let checks = crate::packed::unpack(r);
     let s = SYNDROMES - k;
-    kernel::copy(&checks[s..], &mut word[..k]);
+    word[..k].copy_from_slice(&checks[s..]);
 }
 
 // The first k symbols of a word, the symbols at the top of a remainder added, then zeros.
@@ -33,10 +34,8 @@ fn difference(word: &[u8], k: usize, r: Packed) -> [u8; SYNDROMES]
     let checks = crate::packed::unpack(r);
     let above = SYNDROMES - k;
     let mut out = [0u8; SYNDROMES];
-    let mut q: usize = 0;
-    while q < k {
+    for q in 0..k {
         out[q] = word[q] ^ checks[above + q];
-        q += 1;
     }
     out
 }
@@ -50,39 +49,21 @@ pub fn residue(t: &[u64], first: usize, k: usize, word: &[u8]) -> [u8; SYNDROMES
     difference(word, k, crate::division::remainder(t, word, k))
 }
 
-// The remainders of four words.
-#[derive(Clone, Copy)]
-pub struct FourResidues {
-    pub first: [u8; SYNDROMES],
-    pub second: [u8; SYNDROMES],
-    pub third: [u8; SYNDROMES],
-    pub fourth: [u8; SYNDROMES],
-}
-
-// The remainders of four words of one length: up to 32 roots they take little longer than one.
+// The remainders of four words of length n: up to 32 roots they take little longer than one.
 pub fn residues(
     t: &[u64],
     first: usize,
     k: usize,
-    a: &[u8],
-    b: &[u8],
-    c: &[u8],
-    d: &[u8],
-) -> FourResidues
-    requires { Table first k t.now × (k ≤ 48) × (k ≤ length a.now) × (length b.now ≡ length a.now)
-        × (length c.now ≡ length a.now) × (length d.now ≡ length a.now) }
-    ensures { Residual first k a.now result.first × Residual first k b.now result.second
-        × Residual first k c.now result.third × Residual first k d.now result.fourth }
+    words: [&[u8]; 4],
+    n: usize,
+) -> [[u8; SYNDROMES]; 4]
+    requires { Table first k t.now × (k ≤ 48) × (k ≤ n) × All (λ w. length w.now ≡ n) words }
+    ensures { Each (λ w r. Residual first k w.now r) words.entry result }
 {
-    let left = crate::division::remainders(t, a, b, c, d, k);
-    let first = difference(a, k, left.0);
-    let second = difference(b, k, left.1);
-    let third = difference(c, k, left.2);
-    let fourth = difference(d, k, left.3);
-    FourResidues {
-        first,
-        second,
-        third,
-        fourth,
+    let left = crate::division::remainders(t, words, n, k);
+    let mut out = [[0u8; SYNDROMES]; 4];
+    for i in 0..4 {
+        out[i] = difference(words[i], k, left[i]);
     }
+    out
 }

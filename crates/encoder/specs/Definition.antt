@@ -2,11 +2,10 @@
 --
 --   written a d o     what the output holds in the end, a being the answer to the questions, d the data and o what it
 --                     held before
-use Rattle.std.specs.Prelude.{ℕ, List, map}
+use Rattle.std.specs.Prelude.{ℕ, List, map, Ok, Err}
 use Rattle.std.proofs.Math.Option.{Option, none, some}
 use Rattle.field.specs.Field.{F, of, byte}
-use Rattle.profile.specs.declared.Parsed.{Parsed}
-use Rattle.profile.specs.declared.Parsed.TheVariants.{Accepted, Refused}
+use Rattle.profile.specs.Definition.{Parsed}
 use Rattle.code.specs.Encoding.{encoding}
 
 -- the bytes of the word that was found; `encoding-some` says that there always is one
@@ -15,5 +14,5 @@ found o (some w) = map byte w
 found o none = o
 
 abbrev pub written : Parsed → List ℕ → List ℕ → List ℕ
-written (Accepted p) d o = found o (encoding p (map of d))
-written (Refused q) d o = o
+written (Ok p) d o = found o (encoding p (map of d))
+written (Err q) d o = o

@@ -2,9 +2,7 @@
 --
 --   Known f n k d r                 r holds the remainder of the word of n symbols that has k check symbols, not yet
 --                                   found, and the data d, the first root being α^f
---   WroteFour p a b c d i s t       the block t is the block s with subwords i to i + 3 written, a to d being
---                                   their data
-use Rattle.std.specs.Prelude.{ℕ, suc, ◌+◌, ◌-◌, ◌*◌, ◌≤◌, ◌<◌, ◌≡◌, refl, List, length, take, replicate}
+use Rattle.std.specs.Prelude.{ℕ, suc, ◌+◌, ◌*◌, ◌≤◌, ◌<◌, ◌≡◌, refl, List, length, take, replicate}
 use Rattle.std.proofs.Common.{sym, ap, ap₂, subst, ◌∙◌, arith, length-take-le}
 use Rattle.std.proofs.lemmas.List.{length-replicate}
 use Rattle.field.specs.Field.{of, of_zero}
@@ -15,7 +13,7 @@ use Rattle.series.specs.Array.{bytes, below-read}
 use Rattle.series.specs.Part.{splice, read_prefix}
 use Rattle.profile.specs.declared.Profile.{Profile}
 use Rattle.profile.specs.Definition.{first-root, checks, data_length}
-use Rattle.profile.specs.Valid.{checks-high, checks-most, checks-below}
+use Rattle.profile.specs.Valid.{checks-most, checks-below}
 use Rattle.code.specs.Word.{systematic}
 use Rattle.divider.specs.ReedSolomonResidue.{residue, Residual, below-residue, residue-systematic}
 use Rattle.block.specs.Parts.{Fits, inside}
@@ -26,15 +24,6 @@ use Rattle.encoder.specs.CarrySubword.{filled, Wrote, wrote-is}
 pub record Known (f n k : ℕ) (d r : List ℕ) : Type 0 where
   pub long : length r ≡ 48
   pub is : bytes r ≡ residue f n k (zpow k ⊠ bytes d)
-
-pub record WroteFour (p : Profile) (a b c d : Series) (i : ℕ) (old new : Series) : Type 0 where
-  pub first : Series
-  pub second : Series
-  pub third : Series
-  pub at_3 : Wrote p d (i + 3) old first
-  pub at_2 : Wrote p c (i + 2) first second
-  pub at_1 : Wrote p b (i + 1) second third
-  pub at_0 : Wrote p a i third new
 
 padded-below : (n k : ℕ) (d : List ℕ) → k + length d ≡ n → below n (zpow k ⊠ bytes d)
 padded-below n k d e =
@@ -101,12 +90,3 @@ known_wrote p i k m d s y w r fits high h ek ed em ly lw kn ew ey =
     none : filled f n k (bytes d) (bytes (take n (replicate 255 0))) ≡ systematic f n k (zpow k ⊠ bytes d)
     none = ap (λ (e : Series). systematic f n k (zpow k ⊠ bytes d ⊞ e) ⊞ e) zero ∙ ⊞-zero _
         ∙ ap (systematic f n k) (⊞-zero _)
-
--- all subwords from v on are alike: what is known at i serves j subwords above it
-pub known-above : (p : Profile) (i j k : ℕ) (d r s : List ℕ) → Fits p s → p.nested ≤ i → i + j < p.subwords
-    → k ≡ checks p i → length d ≡ data_length p i → Known (first-root p) p.length k d r
-    → Fits p s × (p.nested ≤ i + j) × (i + j < p.subwords) × (k ≡ checks p (i + j))
-    × (length d ≡ data_length p (i + j)) × Known (first-root p) p.length k d r
-known-above p i j k d r s fits high h ek ed known =
-    let same : checks p (i + j) ≡ checks p i = checks-high p (i + j) (omega arith) ∙ sym (checks-high p i high) in
-    (fits, omega arith, h, ek ∙ sym same, ed ∙ ap (λ c. p.length - c) (sym same), known)

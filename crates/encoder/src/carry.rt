@@ -35,10 +35,8 @@ fn rise(l: usize, last: usize, from: &[u8], word: &mut [u8])
     if last < l {
         return;
     }
-    let mut q: usize = 0;
-    while q < word.len() {
+    for q in 0..word.len() {
         word[q] = raised(l, word[q]) ^ from[q];
-        q = q + 1;
     }
 }
 
@@ -51,9 +49,7 @@ fn corner(p: Profile, i: usize, block: &[u8]) -> [u8; POSITIONS]
     let mut a = [0u8; POSITIONS];
     let mut b = [0u8; POSITIONS];
     let mut c = [0u8; POSITIONS];
-    let mut j = p.subwords as usize;
-    while j > 0 {
-        j = j - 1;
+    for j in (0..p.subwords as usize).rev() {
         rise(2, i, &b, &mut c);
         rise(1, i, &a, &mut b);
         block::accumulate::add_subword(p, block, j, &mut a);
@@ -86,10 +82,8 @@ pub fn place(k: usize, e: &[u8], input: &[u8], word: &mut [u8])
     ensures { drop k (bytes word.new) ≡
         bytes input.now ⊞ drop k (bytes e.now) }
 {
-    let mut q: usize = 0;
-    while q < input.len() {
+    for q in 0..input.len() {
         word[k + q] = input[q] ^ e[k + q];
-        q = q + 1;
     }
 }
 

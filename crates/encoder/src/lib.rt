@@ -5,9 +5,10 @@
 mod carry;
 mod fours;
 
-ghost use Rattle.std.specs.Prelude.{suc, ◌+◌, ◌≤◌, ◌≡◌, length};
+ghost use Rattle.std.specs.Prelude.{suc, ◌+◌, ◌*◌, ◌≤◌, ◌≡◌, length};
 ghost use Rattle.series.specs.Array.{bytes};
 ghost use Rattle.profile.specs.Definition.{answer_of, first-root, checks as Checks, data_size as DataSize};
+ghost use Rattle.profile.specs.FetchDefinition.{between};
 ghost use Rattle.profile.specs.Questions.{writing};
 ghost use Rattle.divider.specs.GeneratorTable.{Table};
 ghost use Rattle.code.specs.Definition.{Encodes};
@@ -16,7 +17,7 @@ ghost use Rattle.encoder.specs.Definition.{written};
 ghost use Rattle.encoder.specs.Write.{DownTo};
 
 use profile::questions::Caller;
-use profile::{Answer, Parsed, Profile, Refusal};
+use profile::{Profile, Refusal};
 
 // What is left to write: the first subwords, and their data.
 #[derive(Clone, Copy)]
@@ -43,7 +44,17 @@ fn write_one(
     start
 }
 
-// Writes subwords i to i + 3, to which nothing is carried, in the same way.
+// Stretch j of `one` symbols each, from `start` on.
+fn part<'a>(input: &'a [u8], start: usize, one: usize, j: usize) -> &'a [u8]
+    requires { start + j * one + one ≤ length input.now }
+    ensures { (length result.now ≡ one) × (result.now ≡ between (start + j * one) (start + j * one + one) input.now) }
+{
+    let at = start + j * one;
+    &input[at..at + one]
+}
+
+// Writes subwords i to i + 3, to which nothing is carried, in the same way: their remainders are found together, in
+// little more than the time of one.
 fn write_four(
     p: Profile,
     t: &[u64],
@@ -57,22 +68,21 @@ fn write_four(
         × Table (first-root p) k t.now }
     ensures { DownTo p input.now out.new i result }
 {
-    let one = p.length as usize - k;
-    let d = end - one;
-    let c = d - one;
-    let b = c - one;
-    let a = b - one;
-    crate::fours::write_four(
-        p,
-        t,
-        i,
-        &input[a..b],
-        &input[b..c],
-        &input[c..d],
-        &input[d..end],
-        out,
-    );
-    a
+    let first = p.first_root as usize;
+    let n = p.length as usize;
+    let one = n - k;
+    let start = end - 4 * one;
+    let parts = [
+        part(input, start, one, 0),
+        part(input, start, one, 1),
+        part(input, start, one, 2),
+        part(input, start, one, 3),
+    ];
+    let left = crate::fours::remainders(t, first, n, k, parts);
+    for j in (0..4).rev() {
+        crate::fours::write_known(p, k, &left[j], i + j, parts[j], out);
+    }
+    start
 }
 
 // Writes four subwords at a time, while so many are left to which nothing is carried.
@@ -81,15 +91,14 @@ fn write_fours(p: Profile, t: &[u64], k: usize, input: &[u8], out: &mut [u8]) ->
         × Table (first-root p) k t.now }
     ensures { DownTo p input.now out.new result.subwords result.symbols }
 {
-    let least = p.nested as usize + 4;
+    let m = p.subwords as usize;
+    let fours = (m - p.nested as usize) / 4;
     let mut end = input.len();
-    let mut i = p.subwords as usize;
-    while i >= least {
-        i = i - 4;
-        end = write_four(p, t, k, i, input, end, out);
+    for q in 0..fours {
+        end = write_four(p, t, k, m - 4 * (q + 1), input, end, out);
     }
     Left {
-        subwords: i,
+        subwords: m - 4 * fours,
         symbols: end,
     }
 }
@@ -105,9 +114,7 @@ fn write(p: Profile, input: &[u8], out: &mut [u8])
     divider::generator::table(first, made, &mut t);
     let left = write_fours(p, &t, made, input, out);
     let mut end = left.symbols;
-    let mut i = left.subwords;
-    while i > 0 {
-        i = i - 1;
+    for i in (0..left.subwords).rev() {
         let k = p.checks(i as u8) as usize;
         divider::generator::prepare(&mut t, made, first, k);
         made = k;
@@ -115,27 +122,16 @@ fn write(p: Profile, input: &[u8], out: &mut [u8])
     }
 }
 
-// A refusal leaves every byte of the output.
-fn refuse(q: Refusal, out: &mut [u8]) -> Answer
-    ensures answer { result ≡ Answer.Refused q }
-    ensures same { out.new ≡ out.old }
-{
-    Answer::Refused(q)
-}
-
-// Writes the block with the given data, or tells the first question that says no.
-pub fn encode(profile: &[u8], data: &[u8], out: &mut [u8]) -> Answer
+// Writes the block with the given data, or tells the first question that says no. A refusal leaves every byte of the
+// output.
+pub fn encode(profile: &[u8], data: &[u8], out: &mut [u8]) -> Result<(), Refusal>
     ensures answer { result ≡
         answer_of (writing profile.now (length «data».now) (length out.old)) }
     ensures block { out.new ≡
         written (writing profile.now (length «data».now) (length out.old))
         «data».now out.old }
 {
-    match profile::questions::admit(Caller::Encoder, profile, data.len(), out.len(), 0) {
-        Parsed::Accepted(p) => {
-            write(p, data, out);
-            Answer::Accepted
-        }
-        Parsed::Refused(q) => refuse(q, out),
-    }
+    let p = profile::questions::admit(Caller::Encoder, profile, data.len(), out.len(), 0)?;
+    write(p, data, out);
+    Ok(())
 }

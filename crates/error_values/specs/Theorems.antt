@@ -104,7 +104,7 @@ module _ (first n : ℕ) (e : Series) (hn : n ≤ 255) (p : ℕ) (hp : p < n) (c
   ended_gives k S s ended long known few agrees =
       subst (λ (k : ℕ). Gives first k S p f (state_of f k s) (e p)) long
       (subst (λ (S : Series). Gives first r S p f (state_of f r s) (e p)) known
-      (subst (λ (m : (form_of f).State). Gives first r (entry (joined rounds)) p f m (e p)) (sym ended.is.1)
+      (subst (λ (m : (form_of f).State). Gives first r (entry (joined rounds)) p f m (e p)) (sym ended.1)
       (end_gives (omega (arith, long)) (λ j l. agrees j (omega (arith, long)) ∙ ap (λ S. S j) (sym known)))))
     where
       r : ℕ

@@ -19,7 +19,7 @@ ghost use Rattle.solver.specs.Solver.{form_of, Is};
 ghost use Rattle.error_values.specs.Definition.{B_in, factor_in, evaluator_value, auxiliary_value};
 
 use field::{Exponent, Gf};
-use kernel::product;
+use kernel::{Row, product};
 use polynomial::syndromes::coefficient;
 use polynomial::{COEFFICIENTS, SYNDROMES, coefficients};
 use solver::scaled::one_if_zero;
@@ -29,10 +29,7 @@ use solver::{Form, Solver};
 fn iterations(k: u8) -> usize
     ensures { result ≡ min k 48 }
 {
-    if k < 48 {
-        return k as usize;
-    }
-    48
+    (k as usize).min(SYNDROMES)
 }
 
 // The inverse location of position p to the power k.
@@ -45,8 +42,8 @@ fn inverse_power(p: u8, k: usize) -> Gf
 }
 
 // The row of products by the inverse location of position p.
-fn inverse_row(p: u8) -> [u8; 256]
-    ensures { bytes result ≡ cut 256 (products (W p)) }
+fn inverse_row(p: u8) -> Row
+    ensures { bytes result.products ≡ cut 256 (products (W p)) }
 {
     kernel::product_row(inverse_power(p, 1))
 }
@@ -60,18 +57,14 @@ fn untwisted(first: u8, p: u8, y: Gf) -> Gf
     product(Exponent(p as usize * e).power(), y)
 }
 
-// B in the form that the solver has.
+// B in the form that the solver has, by a match as in continuation::locator: see Solver.
 fn auxiliary(s: Solver) -> [Gf; COEFFICIENTS]
     ensures { (r : ℕ) (f : Form) (m : (form_of f).State) → Is f r s m → poly result ≡ B_in f m }
 {
-    let form = s.form;
-    let p = s.plain;
-    let l = s.lookahead;
-    let c = s.scaled;
-    match form {
-        Form::Plain => p.auxiliary,
-        Form::Lookahead => l.auxiliary,
-        Form::Scaled => c.auxiliary,
+    match s {
+        Solver::Plain(p) => p.auxiliary,
+        Solver::Lookahead(p) => p.auxiliary,
+        Solver::Scaled(p) => p.auxiliary,
     }
 }
 
@@ -80,16 +73,12 @@ fn factor(s: Solver, k: usize, syndromes: [Gf; SYNDROMES]) -> Gf
     ensures { (r : ℕ) (f : Form) (m : (form_of f).State) → Is f r s m
         → val result ≡ factor_in f k (row syndromes) m }
 {
-    let form = s.form;
-    let p = s.plain;
-    let l = s.lookahead;
-    let c = s.scaled;
-    match form {
-        Form::Plain => p.gamma,
-        Form::Lookahead => l.gamma,
-        Form::Scaled => {
+    match s {
+        Solver::Plain(p) => p.gamma,
+        Solver::Lookahead(p) => p.gamma,
+        Solver::Scaled(p) => {
             let x = coefficient(syndromes, k);
-            product(c.gamma, one_if_zero(x, x))
+            product(p.gamma, one_if_zero(x, x))
         }
     }
 }

@@ -4,27 +4,23 @@ ghost use Rattle.std.specs.Prelude.{◌≤◌, ◌≡◌};
 ghost use Rattle.field.specs.Field.{val};
 ghost use Rattle.series.specs.Shift.{cut};
 ghost use Rattle.polynomial.specs.Polynomial.{poly, row as Row};
-ghost use Rattle.kernel.specs.ProductRow.{factor, ProductRow};
+ghost use Rattle.kernel.specs.ProductRow.{factor};
 ghost use Rattle.settling.specs.ErrorValue.{Ω_at};
 ghost use Rattle.error_values.specs.OmegaValue.{quotient};
 
 use field::{Exponent, Gf};
-use kernel::index;
+use kernel::Multiplier;
 use polynomial::{COEFFICIENTS, SYNDROMES};
 
 // The syndromes times x/(1 + xz), x being the row's factor: one lookup a syndrome.
-fn divided(row: &[u8; 256], s: [Gf; SYNDROMES]) -> [Gf; SYNDROMES]
-    requires { ProductRow row.now }
-    ensures { Row result ≡ cut 48 (quotient (factor row.now) (Row s)) }
+fn divided(row: &kernel::Row, s: [Gf; SYNDROMES]) -> [Gf; SYNDROMES]
+    ensures { Row result ≡ cut 48 (quotient (factor row.now.products) (Row s)) }
 {
     let mut out = [Gf::ZERO; SYNDROMES];
     let mut v: u8 = 0;
-    let mut j: usize = 0;
-    while j < SYNDROMES {
-        let g = s[j];
-        v = row[index(v ^ g.0)];
+    for j in 0..SYNDROMES {
+        v = row.times(v ^ s[j].0);
         out[j] = Gf(v);
-        j = j + 1;
     }
     out
 }

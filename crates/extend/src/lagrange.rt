@@ -1,6 +1,6 @@
 // The unsettled subwords of a block: how many they are, and Lagrange's polynomials of them. What the promises speak of
 // stands in specs/LagrangeDefinition.antt.
-ghost use Rattle.std.specs.Prelude.{suc, ◌≤◌, ◌<◌, ◌≡◌, cond};
+ghost use Rattle.std.specs.Prelude.{◌≤◌, ◌<◌, ◌≡◌, cond};
 ghost use Rattle.field.specs.Field.{𝟏, α, ◌⊕◌, ◌⊙◌, pow, val};
 ghost use Rattle.staged_decoding.specs.Definition.{count};
 ghost use Rattle.extend.specs.LagrangeDefinition.{flag, others, product as Product, lagrange as Lagrange};
@@ -8,30 +8,15 @@ ghost use Rattle.extend.specs.LagrangeDefinition.{flag, others, product as Produ
 use field::{Exponent, Gf};
 use profile::{Profile, SUBWORDS};
 
-// One more, if the next subword is unsettled.
-fn counted(b: usize, pending: bool) -> usize
-    requires { b < 8 }
-    ensures { result ≡ cond pending (suc b) b }
-{
-    if pending {
-        return b + 1;
-    }
-    b
-}
-
 // How many of the subwords are unsettled.
 pub fn unsettled(p: Profile, pending: [bool; SUBWORDS]) -> usize
     requires { p.subwords ≤ 8 }
     ensures { result ≡ count p.subwords (flag pending) }
 {
-    let m = p.subwords as usize;
-    let mut b: usize = 0;
-    let mut i: usize = 0;
-    while i < m {
-        b = counted(b, pending[i]);
-        i = i + 1;
-    }
-    b
+    pending[..p.subwords as usize]
+        .iter()
+        .filter(|b| **b)
+        .count()
 }
 
 // b times x + α^j, if subword j is unsettled and not subword i; else b, with no product.
@@ -56,10 +41,8 @@ fn product(p: Profile, pending: [bool; SUBWORDS], i: usize, k: usize) -> Gf
     let m = p.subwords as usize;
     let x = Exponent(k).power();
     let mut b = Gf::ONE;
-    let mut j: usize = 0;
-    while j < m {
+    for j in 0..m {
         b = times(b, pending, i, j, x);
-        j = j + 1;
     }
     b
 }

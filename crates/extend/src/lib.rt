@@ -28,11 +28,9 @@ fn merge(p: Profile, pending: [bool; SUBWORDS], block: &[u8], i: usize) -> [u8; 
 {
     let m = p.subwords as usize;
     let mut word = [0u8; POSITIONS];
-    let mut k: usize = 0;
-    while k < m {
+    for k in 0..m {
         let c = crate::lagrange::lagrange(p, pending, i, k);
         block::accumulate::add_multiple(p, c, block, k, &mut word);
-        k = k + 1;
     }
     word
 }
@@ -43,10 +41,8 @@ fn splice(s: [Gf; SYNDROMES], from: usize, to: usize, row: [Gf; SYNDROMES]) -> [
     ensures { Row result ≡ window from to (Row s) (Row row) }
 {
     let mut out = row;
-    let mut j = from;
-    while j < to {
+    for j in from..to {
         out[j] = s[j];
-        j = j + 1;
     }
     out
 }
@@ -100,10 +96,8 @@ pub fn extend(
 {
     let m = p.subwords as usize;
     let mut out = table;
-    let mut i: usize = 0;
-    while i < m {
+    for i in 0..m {
         out[i] = extend_row(p, u, pending, block, i, from, to, table[i]);
-        i = i + 1;
     }
     out
 }

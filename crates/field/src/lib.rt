@@ -7,11 +7,11 @@ ghost use Rattle.std.specs.Prelude.{◌<◌, ◌≡◌, map};
 ghost use Rattle.field.specs.Definition.{◌⊕◌, ◌⊙◌, α, pow, inv, log, is_zero, val, named, power_table, log_table};
 
 // A field value: bit i of the byte is the coefficient of z^i.
-#[derive(Clone, Copy)]
+#[derive(Clone, Copy, Debug, PartialEq, Eq)]
 pub struct Gf(pub u8);
 
 // An exponent of α, never a field value: the two tables alone lead from one to the other. Any number is one.
-#[derive(Clone, Copy)]
+#[derive(Clone, Copy, Debug, PartialEq, Eq)]
 pub struct Exponent(pub usize);
 
 // At k: α^k, for k below 255. The last entry is of no power, and 0.

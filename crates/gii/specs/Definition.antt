@@ -5,8 +5,7 @@
 --   numbers r          the numbers of the report of a reading's result r
 --   reported r b       what a buffer for the report holds in the end, b being what it held
 use Rattle.std.specs.Prelude.{ℕ, zero, suc, ◌+◌, ◌≡◌, List, length}
-use Rattle.profile.specs.declared.Parsed.{Parsed}
-use Rattle.profile.specs.Definition.{unless_refused}
+use Rattle.profile.specs.Definition.{Parsed, unless_refused}
 use Rattle.profile.specs.FetchDefinition.{between, part}
 use Rattle.solver.specs.declared.Form.{Form}
 use Rattle.solver.specs.declared.Form.TheVariants.{Plain, Lookahead, Scaled}

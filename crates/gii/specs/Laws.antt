@@ -7,18 +7,14 @@
 -- names the plain form (form-other); a buffer is filled with what a reading tells, if that is no refusal
 -- (numbers-filled).
 use Rattle.std.specs.Prelude.{ℕ, zero, suc, ◌+◌, ◌-◌, ◌*◌, ◌≤◌, ◌<◌, ◌≡◌, refl, List, [], ◌∷◌, ◌++◌, eqb, length}
-use Rattle.std.specs.Prelude.{get_or, take, drop}
+use Rattle.std.specs.Prelude.{get_or, take, drop, Ok, Err}
 use Rattle.std.proofs.Common.{sym, ap, ap₂, ◌∙◌, mul-le-mul_right, one-mul, arith, ne_eqb, length-take-le, take_at}
 use Rattle.std.proofs.Math.Path.{fun_ext}
 use Rattle.std.proofs.Math.Seq.{length_front}
 use Rattle.profile.specs.declared.Profile.{Profile}
 use Rattle.profile.specs.declared.Refusal.{Refusal}
-use Rattle.profile.specs.declared.Parsed.{Parsed}
-use Rattle.profile.specs.declared.Parsed.TheVariants.{Accepted, Refused}
-use Rattle.profile.specs.declared.Answer.{Answer}
-use Rattle.profile.specs.declared.Answer.TheVariants as answer
 use Rattle.profile.specs.declared.questions.Caller.TheVariants.{Fetch, Extract, Card}
-use Rattle.profile.specs.Definition.{answer_of, block_size, data_size, unless_refused}
+use Rattle.profile.specs.Definition.{Parsed, Answer, answer_of, block_size, data_size, unless_refused}
 use Rattle.profile.specs.Questions.{profile_of, fetching, extracting}
 use Rattle.profile.specs.QuestionsLaws.{admitted-profile}
 use Rattle.profile.specs.Valid.{Valid, admitted-valid, extracting-passed, reading-admitted, checks-below}
@@ -55,8 +51,8 @@ pub size-refuses : (f : Profile → ℕ) → ((p : Profile) → Valid p → 0 < 
 size-refuses f some b small = go (profile_of b) refl
   where
     go : (a : Parsed) → profile_of b ≡ a → eqb (if_accepted f a) 0 ≡ refuses (answer_of a)
-    go (Accepted p) e = ne_eqb (f p) 0 (λ z. omega (arith, some p (admitted-valid Card b 0 0 0 p e (omega arith))))
-    go (Refused q) e = refl
+    go (Ok p) e = ne_eqb (f p) 0 (λ z. omega (arith, some p (admitted-valid Card b 0 0 0 p e (omega arith))))
+    go (Err q) e = refl
 
 -- ---- parts
 
@@ -76,37 +72,37 @@ part-stands a i n block e =
     ap (λ (k : ℕ). take k (drop n block)) s ∙ ap (λ (k : ℕ). take m (drop k block)) e ∙ go a
   where
     go : (a : Parsed) → take (length (part a i block)) (drop (if_accepted (λ p. start p i) a) block) ≡ part a i block
-    go (Accepted p) = take_taken ((i + 1) * p.length - start p i) (drop (start p i) block)
-    go (Refused q) = refl
+    go (Ok p) = take_taken ((i + 1) * p.length - start p i) (drop (start p i) block)
+    go (Err q) = refl
 
 -- what an answer says of the questions
-accepted-of : (a : Parsed) → answer_of a ≡ answer.Accepted → (p : Profile) × (a ≡ Accepted p)
-accepted-of (Accepted p) e = (p, refl)
-accepted-of (Refused q) e = let z : ◌≡◌ {A = ℕ} 0 1 = cc in absurd (omega arith)
+accepted-of : (a : Parsed) → answer_of a ≡ Ok tt → (p : Profile) × (a ≡ Ok p)
+accepted-of (Ok p) e = (p, refl)
+accepted-of (Err q) e = let z : ◌≡◌ {A = ℕ} 0 1 = cc in absurd (omega arith)
 
-refused-of : (a : Parsed) (q : Refusal) → answer_of a ≡ answer.Refused q → a ≡ Refused q
-refused-of (Accepted p) q e = let z : ◌≡◌ {A = ℕ} 0 1 = cc in absurd (omega arith)
-refused-of (Refused r) q e = cc
+refused-of : (a : Parsed) (q : Refusal) → answer_of a ≡ Err q → a ≡ Err q
+refused-of (Ok p) q e = let z : ◌≡◌ {A = ℕ} 0 1 = cc in absurd (omega arith)
+refused-of (Err r) q e = cc
 
 module _ (b : List ℕ) (s i : ℕ) where
   -- an accepted fetch is one of an accepted profile
-  fetched : answer_of (fetching b s i) ≡ answer.Accepted
-      → (p : Profile) × (fetching b s i ≡ Accepted p) × (profile_of b ≡ Accepted p) × (i < p.subwords)
+  fetched : answer_of (fetching b s i) ≡ Ok tt
+      → (p : Profile) × (fetching b s i ≡ Ok p) × (profile_of b ≡ Ok p) × (i < p.subwords)
   fetched e =
       let (p, is) = accepted-of (fetching b s i) e in
       (p, is, admitted-profile Fetch b s 0 i p is, fetching-below b s i p is)
 
-  pub fetched-small : answer_of (fetching b s i) ≡ answer.Accepted → ((k : ℕ) → get_or b k 0 < 256) → i < 256
+  pub fetched-small : answer_of (fetching b s i) ≡ Ok tt → ((k : ℕ) → get_or b k 0 < 256) → i < 256
   fetched-small e small =
       let (p, _, is, below) = fetched e in
       omega (arith, (admitted-valid Card b 0 0 0 p is (omega (arith, small 2))).subwords)
 
-  pub start-accepted : (n : ℕ) → answer_of (fetching b s i) ≡ answer.Accepted
+  pub start-accepted : (n : ℕ) → answer_of (fetching b s i) ≡ Ok tt
       → n ≡ if_accepted (λ p. start p i) (profile_of b)
       → n ≡ if_accepted (λ p. start p i) (fetching b s i)
   start-accepted n e is = let (p, f, g, _) = fetched e in is ∙ ap (if_accepted (λ p. start p i)) (g ∙ sym f)
 
-  pub start-refused : (q : Refusal) → answer_of (fetching b s i) ≡ answer.Refused q
+  pub start-refused : (q : Refusal) → answer_of (fetching b s i) ≡ Err q
       → 0 ≡ if_accepted (λ p. start p i) (fetching b s i)
   start-refused q e = sym (ap (if_accepted (λ p. start p i)) (refused-of (fetching b s i) q e))
 
@@ -118,8 +114,8 @@ module _ (x o : List ℕ) where
   gives-zero a e = gives-accepted x o a (omega (arith, e))
 
   pub keeps-other : (a : Answer) → (result_number a ≡ 0 → ⊥) → o ≡ unless_refused a x o
-  keeps-other answer.Accepted e = absurd (e refl)
-  keeps-other (answer.Refused q) e = refl
+  keeps-other (Ok tt) e = absurd (e refl)
+  keeps-other (Err q) e = refl
 
 -- the data of a block that was read, by its answer; s is what the output for the block held
 pub data-read : (p : Profile) (z : Outcome) (s o : List ℕ)
@@ -135,7 +131,7 @@ lent_front n l e h k =
     let size = k ∙ length-take-le n l h in
     (omega (arith, length_front l e n k), take_at e (drop n l) n size, size)
 
-module _ (b y : List ℕ) (o : ℕ) (p : Profile) (e : extracting b (length y) o ≡ Accepted p)
+module _ (b y : List ℕ) (o : ℕ) (p : Profile) (e : extracting b (length y) o ≡ Ok p)
     (small : get_or b 2 0 ≤ 255) where
   pub extracted-fits : Fits p y × (o ≡ data_size p)
   extracted-fits =

@@ -8,14 +8,12 @@
 --   listed r c w f     the numbers of a report: r is the last stage, c the changed symbols, w the changed bits, f the
 --                      lines
 --   filled l b         the buffer b after as many of the numbers l as it has room for were written to it
-use Rattle.std.specs.Prelude.{ℕ, zero, suc, ◌+◌, ◌*◌, ◌/◌, ◌%◌, List, [], ◌∷◌, ◌++◌, length, take, drop}
+use Rattle.std.specs.Prelude.{ℕ, zero, suc, ◌+◌, ◌*◌, ◌/◌, ◌%◌, List, [], ◌∷◌, ◌++◌, length, take, drop, Ok, Err}
 use Rattle.profile.specs.declared.Refusal.{Refusal}
 use Rattle.profile.specs.declared.Refusal.TheVariants.{ProfileSize, Subwords, Nested, Capabilities}
 use Rattle.profile.specs.declared.Refusal.TheVariants.{EqualCapabilities, Length, FirstRoot, InputSize}
 use Rattle.profile.specs.declared.Refusal.TheVariants.{OutputSize, Unsettled, NotCodeword, Subword}
-use Rattle.profile.specs.declared.Answer.{Answer}
-use Rattle.profile.specs.declared.Answer.TheVariants.{Accepted, Refused}
-use Rattle.profile.specs.Definition.{answer_number}
+use Rattle.profile.specs.Definition.{Answer, answer_number}
 use Rattle.staged_decoding.specs.Definition.{Verdict, clean, corrected, Line}
 
 -- of a refusal
@@ -34,8 +32,8 @@ unsettled_stage NotCodeword = 0
 unsettled_stage Subword = 0
 
 abbrev pub stage_of : Answer → ℕ
-stage_of Accepted = 0
-stage_of (Refused q) = unsettled_stage q
+stage_of (Ok tt) = 0
+stage_of (Err q) = unsettled_stage q
 
 -- FORMAT 4.15
 abbrev pub result_number : Answer → ℕ

@@ -18,7 +18,7 @@ ghost use Rattle.gii.specs.NumbersDefinition.{result_number};
 ghost use Rattle.gii.specs.Definition.{Stands, form_of, reported};
 
 use profile::questions::Caller;
-use profile::{Answer, Parsed, Profile, Refusal};
+use profile::{Profile, Refusal};
 use solver::Form;
 
 // ---- sizes
@@ -51,7 +51,7 @@ pub extern "C" fn gii_encode(profile: &[u8], data: &[u8], out: &mut [u8]) -> u8
     ensures block { out.new ≡ written (writing profile.now (length «data».now)
         (length out.old)) «data».now out.old }
 {
-    encoder::encode(profile, data, out).number()
+    profile::number(encoder::encode(profile, data, out))
 }
 
 // ---- reading
@@ -85,26 +85,23 @@ pub extern "C" fn gii_decode(
         (length out.old)) report.old }
 {
     let r = decoder::decode(profile, input, out, form_of(form));
-    let a = r.answer;
-    let x = r.report;
-    let lines = x.lines;
-    let list = crate::numbers::list_of(x.last, x.changed, x.bits, lines);
-    crate::numbers::fill_if(a, &list, report);
-    crate::numbers::result_of(a)
+    let list = numbers::list_of(r.report);
+    numbers::fill_if(r.answer, &list, report);
+    numbers::result_of(r.answer)
 }
 
 // A refusal leaves every byte of the output.
 fn refuse(q: Refusal, out: &mut [u8]) -> u16
-    ensures result { result ≡ result_number (Answer.Refused q) }
+    ensures result { result ≡ result_number (Err q) }
     ensures same { out.new ≡ out.old }
 {
-    crate::numbers::result_of(Answer::Refused(q))
+    numbers::result_of(Err(q))
 }
 
 // Reads the data of a block by gii_decode, and not by `decoder::extract`: with one caller of the decoder the compiler
 // sees which parts of a report nobody wants.
 fn read_data(p: Profile, profile: &[u8], block: &[u8], out: &mut [u8]) -> u16
-    requires { extracting profile.now (length block.now) (length out.old) ≡ Parsed.Accepted p }
+    requires { extracting profile.now (length block.now) (length out.old) ≡ Ok p }
     ensures result { result ≡ result_number
         (answer_to (extraction profile.now block.now (length out.old))) }
     ensures data { out.new ≡ data_in (extraction profile.now block.now
@@ -130,8 +127,8 @@ pub extern "C" fn gii_read(profile: &[u8], block: &[u8], data: &mut [u8]) -> u16
         (length «data».old)) «data».old }
 {
     match profile::questions::admit(Caller::Extract, profile, block.len(), data.len(), 0) {
-        Parsed::Accepted(p) => read_data(p, profile, block, data),
-        Parsed::Refused(q) => refuse(q, data),
+        Ok(p) => read_data(p, profile, block, data),
+        Err(q) => refuse(q, data),
     }
 }
 
@@ -142,7 +139,7 @@ pub extern "C" fn gii_read(profile: &[u8], block: &[u8], data: &mut [u8]) -> u16
 pub extern "C" fn gii_fetch(profile: &[u8], block: &[u8], i: usize) -> u8
     ensures { result ≡ answer_number (answer_of (fetching profile.now (length block.now) i)) }
 {
-    profile::fetch::answer(profile, block, i).number()
+    profile::number(profile::fetch::answer(profile, block, i))
 }
 
 // Where the part starts in the block, 0 if the fetch is refused.
@@ -154,8 +151,8 @@ pub extern "C" fn gii_fetch_start(profile: &[u8], block: &[u8], i: usize) -> usi
         block.now result }
 {
     match profile::fetch::answer(profile, block, i) {
-        Answer::Accepted => profile::layout::accepted_start(profile, i as u8),
-        Answer::Refused(_) => 0,
+        Ok(()) => profile::layout::accepted_start(profile, i as u8),
+        Err(_) => 0,
     }
 }
 
@@ -180,5 +177,5 @@ pub extern "C" fn gii_decode_binary(subword: &[u8], out: &mut [u8]) -> u8
     ensures word { out.new ≡
         word_in (BinaryReading subword.now (length out.old)) out.old }
 {
-    binary::decode_binary(subword, out).number()
+    profile::number(binary::decode_binary(subword, out))
 }

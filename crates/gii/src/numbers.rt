@@ -3,72 +3,50 @@
 ghost use Rattle.std.specs.Prelude.{◌+◌, ◌≤◌, ◌≡◌, ◌++◌, length, take};
 ghost use Rattle.profile.specs.Definition.{unless_refused};
 ghost use Rattle.stages.specs.Report.{verdict_of, says};
-ghost use Rattle.gii.specs.NumbersDefinition.{unsettled_stage, stage_of, result_number, line_numbers};
+ghost use Rattle.gii.specs.NumbersDefinition.{stage_of, result_number, line_numbers};
 ghost use Rattle.gii.specs.NumbersDefinition.{lines_numbers, two_bytes, bits_numbers, head_numbers, listed};
 ghost use Rattle.gii.specs.NumbersDefinition.{filled};
 
-use profile::{Answer, Refusal, SUBWORDS};
-use stages::report::{Line, Verdict};
+use profile::{Refusal, SUBWORDS};
+use stages::report::{Line, Report, Verdict};
 
 // The numbers of a report: the last stage, the changed symbols, and three for each of eight lines; then the changed
 // bits, and those of each line. Numbers of two bytes have the high byte first.
 pub const REPORT: usize = 45;
 
-fn unsettled_stage(q: Refusal) -> u8
-    ensures { result ≡ unsettled_stage q }
-{
-    match q {
-        Refusal::ProfileSize => 0,
-        Refusal::Subwords => 0,
-        Refusal::Nested => 0,
-        Refusal::Capabilities => 0,
-        Refusal::EqualCapabilities => 0,
-        Refusal::Length => 0,
-        Refusal::FirstRoot => 0,
-        Refusal::InputSize => 0,
-        Refusal::OutputSize => 0,
-        Refusal::Unsettled(r) => r,
-        Refusal::NotCodeword => 0,
-        Refusal::Subword => 0,
-    }
-}
-
 // The stage that an 8 says, 0 with any other number.
-fn stage_of(a: Answer) -> u8
+fn stage_of(a: Result<(), Refusal>) -> u8
     ensures { result ≡ stage_of a }
 {
     match a {
-        Answer::Accepted => 0,
-        Answer::Refused(q) => unsettled_stage(q),
+        Err(Refusal::Unsettled(stage)) => stage,
+        _ => 0,
     }
 }
 
 // The number of an answer, and 256 times its stage.
-pub fn result_of(a: Answer) -> u16
+pub fn result_of(a: Result<(), Refusal>) -> u16
     ensures { result ≡ result_number a }
 {
-    a.number() as u16 + 256 * (stage_of(a) as u16)
+    u16::from_be_bytes([stage_of(a), profile::number(a)])
 }
 
 // A line's numbers: 0 0 0 for clean, else 1, its count and its stage.
 fn line_numbers(l: Line) -> [u8; 3]
     ensures { result ≡ line_numbers (verdict_of l.verdict) }
 {
-    let v = l.verdict;
-    match v {
+    match l.verdict {
         Verdict::Clean => [0, 0, 0],
         Verdict::Corrected(count, stage) => [1, count, stage],
     }
 }
 
-// Puts three numbers into the list, from k on.
-fn put(x: [u8; 3], k: usize, list: &mut [u8])
-    requires { k + 3 ≤ length list.old }
-    ensures { take (k + 3) list.new ≡ take k list.old ++ x }
+// Puts numbers into the list, from k on.
+fn put<const N: usize>(x: [u8; N], k: usize, list: &mut [u8])
+    requires { k + N ≤ length list.old }
+    ensures { take (k + N) list.new ≡ take k list.old ++ x.entry }
 {
-    list[k] = x[0];
-    list[k + 1] = x[1];
-    list[k + 2] = x[2];
+    list[k..k + N].copy_from_slice(&x);
 }
 
 // Puts a number of two bytes into the list, from k on.
@@ -76,8 +54,7 @@ fn put_two(n: u16, k: usize, list: &mut [u8])
     requires { k + 2 ≤ length list.old }
     ensures { take (k + 2) list.new ≡ take k list.old ++ two_bytes n }
 {
-    list[k] = (n / 256) as u8;
-    list[k + 1] = (n % 256) as u8;
+    put(n.to_be_bytes(), k, list);
 }
 
 // The numbers before the lines, and zeros.
@@ -95,34 +72,30 @@ fn put_lines(lines: [Line; SUBWORDS], list: &mut [u8])
     requires { 27 ≤ length list.old }
     ensures { take 27 list.new ≡ take 3 list.old ++ lines_numbers 8 (says lines) }
 {
-    let mut i: usize = 0;
-    while i < SUBWORDS {
+    for i in 0..SUBWORDS {
         put(line_numbers(lines[i]), 3 + 3 * i, list);
-        i = i + 1;
     }
 }
 
-// Puts the changed bits of the lines behind those of the block.
+// Puts the changed bits of the lines behind those of the block. One function for both lists would be lent what is put
+// of a line, its size and its place, for a loop of one call.
 fn put_bits(lines: [Line; SUBWORDS], list: &mut [u8])
     requires { 45 ≤ length list.old }
     ensures { take 45 list.new ≡ take 29 list.old ++ bits_numbers 8 (says lines) }
 {
-    let mut k: usize = 0;
-    while k < SUBWORDS {
-        let l = lines[k];
-        put_two(l.bits, 29 + 2 * k, list);
-        k = k + 1;
+    for i in 0..SUBWORDS {
+        put_two(lines[i].bits, 29 + 2 * i, list);
     }
 }
 
 // All numbers of a report.
-pub fn list_of(last: u8, changed: u16, bits: u16, lines: [Line; SUBWORDS]) -> [u8; REPORT]
-    ensures { result ≡ listed last changed bits (says lines) }
+pub fn list_of(r: Report) -> [u8; REPORT]
+    ensures { result ≡ listed r.last r.changed r.bits (says r.lines) }
 {
-    let mut list = head(last, changed);
-    put_lines(lines, &mut list);
-    put_two(bits, 27, &mut list);
-    put_bits(lines, &mut list);
+    let mut list = head(r.last, r.changed);
+    put_lines(r.lines, &mut list);
+    put_two(r.bits, 27, &mut list);
+    put_bits(r.lines, &mut list);
     list
 }
 
@@ -130,23 +103,16 @@ pub fn list_of(last: u8, changed: u16, bits: u16, lines: [Line; SUBWORDS]) -> [u
 fn fill(list: &[u8], to: &mut [u8])
     ensures { to.new ≡ filled list.now to.old }
 {
-    let mut i: usize = 0;
-    while i < list.len() {
-        if to.len() <= i {
-            return;
-        }
-        to[i] = list[i];
-        i = i + 1;
-    }
+    let n = list.len().min(to.len());
+    to[..n].copy_from_slice(&list[..n]);
 }
 
 // Copies them if the answer is no refusal, which leaves every byte.
-pub fn fill_if(a: Answer, list: &[u8], to: &mut [u8])
+pub fn fill_if(a: Result<(), Refusal>, list: &[u8], to: &mut [u8])
     ensures { to.new ≡
         unless_refused a (filled list.now to.old) to.old }
 {
-    if a.number() != 0 {
-        return;
+    if a.is_ok() {
+        fill(list, to);
     }
-    fill(list, to);
 }

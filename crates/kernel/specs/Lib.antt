@@ -4,4 +4,5 @@ pub mod Power
 pub mod ProductRow
 pub mod Halves
 pub mod Horner
+pub mod Symbol
 pub mod ByteMultiply

@@ -8,7 +8,7 @@ use field::Gf;
 pub fn index(x: u8) -> usize
     ensures { (result ≡ x) × (result < 256) }
 {
-    x as usize
+    usize::from(x)
 }
 
 // Twice a byte: the bit that falls out comes back as z^8 modulo 285, which is 29.

@@ -5,9 +5,13 @@
 
 mod byte;
 pub mod halves;
+mod multiplier;
 mod row;
+mod symbol;
 mod word;
 
 pub use crate::byte::{index, multiply, product, twice};
-pub use row::{product_row, value};
-pub use word::{add, add_multiple, copy, short_value};
+pub use multiplier::{Multiplier, One, add_scaled, scale, value};
+pub use row::{Row, product_row};
+pub use symbol::{Symbol, is_zero};
+pub use word::{add, add_multiple, copy};

@@ -1,15 +1,30 @@
-// Rows of products, and the value of a word by one lookup a symbol.
+// Rows of products.
 ghost use Rattle.std.specs.Prelude.{◌+◌, ◌≤◌, ◌<◌, ◌≡◌, length};
 ghost use Rattle.field.specs.Field.{◌⊕◌, ◌⊙◌, of, val};
 ghost use Rattle.series.specs.Series.{O, ◌⊞◌, ◌⊠◌};
 ghost use Rattle.series.specs.Shift.{zpow, cut};
 ghost use Rattle.series.specs.Degree.{below};
-ghost use Rattle.series.specs.Value.{value};
 ghost use Rattle.series.specs.Array.{bytes};
 ghost use Rattle.kernel.specs.Power.{Power};
 ghost use Rattle.kernel.specs.ProductRow.{products, factor, ProductRow};
 
+use crate::multiplier::Multiplier;
 use field::Gf;
+
+// The products of a value, the row's factor, with all bytes: one lookup a product.
+#[derive(Clone, Copy, Debug, PartialEq, Eq)]
+pub struct Row {
+    pub products: [u8; 256],
+    ghost is: { ProductRow products },
+}
+
+impl Multiplier for Row {
+    ghost is_by = { λ row c. factor row.products ≡ c };
+
+    fn times(&self, x: u8) -> u8 {
+        self.products[usize::from(x)]
+    }
+}
 
 // Writes the entries from w to 2w - 1: those below w, each with `top` added.
 fn level(top: u8, w: usize, row: &mut [u8])
@@ -17,10 +32,8 @@ fn level(top: u8, w: usize, row: &mut [u8])
     ensures { bytes row.new ≡
         bytes row.old ⊞ zpow w ⊠ cut w (λ i. bytes row.old i ⊕ of top) }
 {
-    let mut x: usize = 0;
-    while x < w {
+    for x in 0..w {
         row[w + x] = row[x] ^ top;
-        x += 1;
     }
 }
 
@@ -34,6 +47,7 @@ pub fn fill(c: u8, row: &mut [u8]) -> u8
 {
     let mut top = c;
     let mut w: usize = 1;
+    // Not a `for`: no index is counted, w doubles.
     while w < row.len() {
         level(top, w, row);
         top = crate::byte::twice(top);
@@ -43,25 +57,12 @@ pub fn fill(c: u8, row: &mut [u8]) -> u8
 }
 
 // The row of products of c, whose entry x is x times c.
-pub fn product_row(c: Gf) -> [u8; 256]
-    ensures { bytes result ≡ cut 256 (products (val c)) }
+pub fn product_row(c: Gf) -> Row
+    ensures { bytes result.products ≡ cut 256 (products (val c)) }
 {
-    let mut row = [0u8; 256];
-    fill(c.0, &mut row);
+    let mut row = Row {
+        products: [0u8; 256],
+    };
+    fill(c.0, &mut row.products);
     row
-}
-
-// The value of a word at the row's factor, by Horner's rule from the last symbol: one lookup a symbol.
-pub fn value(row: &[u8], word: &[u8]) -> Gf
-    requires { ProductRow row.now }
-    ensures { val result ≡
-        value (length word.now) (bytes word.now) (factor row.now) }
-{
-    let mut v: u8 = 0;
-    let mut i: usize = word.len();
-    while i > 0 {
-        i -= 1;
-        v = row[crate::byte::index(v)] ^ word[i];
-    }
-    Gf(v)
 }

@@ -1,50 +1,81 @@
-// Texts appended to the first bytes of an array that is lent, as far as it has room. What the promises speak of stands
-// in specs/Definition.antt.
-ghost use Rattle.std.specs.Prelude.{◌≤◌, ◌≡◌, [], ◌∷◌, length, take};
-ghost use Rattle.listing.specs.Definition.{decimal, Appended};
+// A text in fixed memory. What the promises speak of stands in specs/Definition.antt.
+ghost use Rattle.std.specs.Prelude.{◌≤◌, ◌≡◌, [], ◌∷◌, length};
+ghost use Rattle.listing.specs.Definition.{decimal, Appended, Printed};
 
-// How many of the first `at` bytes an array has: where a text ends before anything is appended to it.
-pub fn within(to: &[u8], at: usize) -> usize
-    ensures value { result ≡ length (take at to.now) }
-    ensures inside { result ≤ length to.now }
-{
-    if at < to.len() {
-        return at;
-    }
-    to.len()
+use std::marker::Model;
+
+// A text of at most N bytes. What is appended to it is kept as far as it has room.
+#[derive(Drop)]
+pub struct Text<const N: usize> {
+    bytes: [u8; N],
+    len: usize,
 }
 
-// Appends a byte, and answers where the text ends.
-fn byte(to: &mut [u8], at: usize, b: u8) -> usize
-    ensures { Appended at (b ∷ []) to.old result to.new }
-{
-    if at < to.len() {
-        to[at] = b;
-        return at + 1;
-    }
-    to.len()
+// Clauses see the bytes of the text.
+impl<const N: usize> Model for Text<N> {
+    ghost use Rattle.std.specs.Prelude.{ℕ, ◌≤◌, List, take};
+
+    ghost Value = { List ℕ };
+
+    ghost view = { λ t. take t.len t.bytes };
+
+    ghost invariant = { λ t. t.len ≤ N };
 }
 
-// Appends a text, and answers where it ends.
-pub fn put(to: &mut [u8], at: usize, text: &[u8]) -> usize
-    ensures { Appended at text.now to.old result to.new }
-{
-    let mut end = within(to, at);
-    let mut i: usize = 0;
-    while i < text.len() {
-        end = byte(to, end, text[i]);
-        i += 1;
+impl<const N: usize> Text<N> {
+    pub fn new() -> Self
+        ensures { result ≡ [] }
+    {
+        Text {
+            bytes: [0; N],
+            len: 0,
+        }
     }
-    end
-}
 
-// Appends the digits of a number: what stands before the last one is a number too.
-pub fn digits(to: &mut [u8], at: usize, n: usize) -> usize
-    ensures { Appended at (decimal n) to.old result to.new }
-{
-    if n < 10 {
-        return byte(to, at, 48 + n as u8);
+    pub fn as_bytes(&self) -> &[u8]
+        ensures says { result.now ≡ self.now }
+        ensures within { length result.now ≤ N }
+    {
+        &self.bytes[..self.len]
     }
-    let end = digits(to, at, n / 10);
-    byte(to, end, 48 + (n % 10) as u8)
+
+    // Copies the text into the first bytes of an array that is lent, and answers how many these are.
+    pub fn print(&self, to: &mut [u8; N]) -> usize
+        ensures { Printed self.now to.old result to.new }
+    {
+        let text = self.as_bytes();
+        let n = text.len();
+        to[..n].copy_from_slice(text);
+        n
+    }
+
+    // Appends a byte.
+    fn byte(&mut self, b: u8)
+        ensures { Appended N (b ∷ []) self.old self.new }
+    {
+        if self.len < N {
+            self.bytes[self.len] = b;
+            self.len += 1;
+        }
+    }
+
+    // Appends a text.
+    pub fn put(&mut self, text: &[u8])
+        ensures { Appended N text.now self.old self.new }
+    {
+        for b in text {
+            self.byte(*b);
+        }
+    }
+
+    // Appends the digits of a number: what stands before the last one is a number too.
+    // Not by Display: the promise of `write!` ends where it answers an error, and `ok` promises its line in any case.
+    pub fn digits(&mut self, n: usize)
+        ensures { Appended N (decimal n) self.old self.new }
+    {
+        if n >= 10 {
+            self.digits(n / 10);
+        }
+        self.byte(48 + (n % 10) as u8);
+    }
 }

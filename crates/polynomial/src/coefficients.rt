@@ -12,14 +12,7 @@ use field::Gf;
 pub fn all(f: [Gf; COEFFICIENTS]) -> [u8; COEFFICIENTS]
     ensures { bytes result ≡ poly f }
 {
-    let mut out = [0u8; COEFFICIENTS];
-    let mut i: usize = 0;
-    while i < COEFFICIENTS {
-        let g = f[i];
-        out[i] = g.0;
-        i = i + 1;
-    }
-    out
+    f.map(|g| g.0)
 }
 
 // The first k coefficients, those of even powers zero.
@@ -28,11 +21,10 @@ pub fn odd(f: [Gf; COEFFICIENTS], k: usize) -> [u8; COEFFICIENTS]
     ensures { bytes result ≡ cut k (Odd (poly f)) }
 {
     let mut out = [0u8; COEFFICIENTS];
-    let mut i: usize = 1;
-    while i < k {
-        let g = f[i];
-        out[i] = g.0;
-        i = i + 2;
+    for i in 0..k {
+        if i % 2 == 1 {
+            out[i] = f[i].0;
+        }
     }
     out
 }

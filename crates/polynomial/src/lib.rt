@@ -9,13 +9,14 @@ pub mod halves;
 pub mod shift;
 pub mod syndromes;
 
-ghost use Rattle.std.specs.Prelude.{◌≤◌, ◌≡◌, true};
-ghost use Rattle.field.specs.Field.{val};
+ghost use Rattle.std.specs.Prelude.{◌≤◌, ◌≡◌};
+ghost use Rattle.field.specs.Field.{F, val};
 ghost use Rattle.series.specs.Series.{O, K, ◌⊞◌, ◌⊠◌};
 ghost use Rattle.series.specs.Degree.{below};
-ghost use Rattle.polynomial.specs.Polynomial.{poly, Clear};
+ghost use Rattle.polynomial.specs.Polynomial.{poly};
 
 use field::Gf;
+use kernel::Multiplier;
 
 // The product with no table, for the scalars of those who multiply polynomials.
 pub use kernel::product;
@@ -42,52 +43,41 @@ pub fn constant(a: Gf) -> [Gf; COEFFICIENTS]
     out
 }
 
-// Whether coefficients `from` to `to` - 1 are zero. No branch is taken in the loop, so that many are looked at a time.
-fn clear(f: [Gf; COEFFICIENTS], from: usize, to: usize) -> bool
-    requires { to ≤ 49 }
-    ensures { result ≡ true → Clear (poly f) from to }
-{
-    let mut any: u8 = 0;
-    let mut i = from;
-    while i < to {
-        let g = f[i];
-        any = any | g.0;
-        i = i + 1;
-    }
-    any == 0
-}
-
 // An index, 16, 32 or 49, from which on the coefficients are zero.
 pub fn extent(f: [Gf; COEFFICIENTS]) -> usize
     ensures { below result (poly f) × (result ≤ 49) }
 {
-    if !clear(f, 32, COEFFICIENTS) {
+    if !kernel::is_zero(&f[32..]) {
         return COEFFICIENTS;
     }
-    if !clear(f, 16, 32) {
+    if !kernel::is_zero(&f[16..32]) {
         return 32;
     }
     16
+}
+
+// The multiple c f, by products that are lent and may serve several polynomials.
+pub fn scale_by<M: Multiplier>(m: &M, f: [Gf; COEFFICIENTS]) -> [Gf; COEFFICIENTS]
+    ensures { (c : F) → M.is_by m.now c → poly result ≡ K c ⊠ poly f }
+{
+    let mut out = [Gf::ZERO; COEFFICIENTS];
+    for i in 0..extent(f) {
+        out[i] = Gf(m.times(f[i].0));
+    }
+    out
 }
 
 // The multiple a f.
 pub fn scale(a: Gf, f: [Gf; COEFFICIENTS]) -> [Gf; COEFFICIENTS]
     ensures { poly result ≡ K (val a) ⊠ poly f }
 {
-    let mut out = [Gf::ZERO; COEFFICIENTS];
-    if a.is_zero() {
-        return out;
+    if a == Gf::ZERO {
+        return zero();
     }
-    if a.0 == 1 {
+    if a == Gf::ONE {
         return f;
     }
-    let n = extent(f);
-    let mut i: usize = 0;
-    while i < n {
-        out[i] = kernel::product(a, f[i]);
-        i = i + 1;
-    }
-    out
+    scale_by(&a, f)
 }
 
 // The sum f + g.
@@ -95,10 +85,8 @@ pub fn sum(f: [Gf; COEFFICIENTS], g: [Gf; COEFFICIENTS]) -> [Gf; COEFFICIENTS]
     ensures { poly result ≡ poly f ⊞ poly g }
 {
     let mut out = [Gf::ZERO; COEFFICIENTS];
-    let mut i: usize = 0;
-    while i < COEFFICIENTS {
+    for i in 0..COEFFICIENTS {
         out[i] = f[i].sum(g[i]);
-        i = i + 1;
     }
     out
 }

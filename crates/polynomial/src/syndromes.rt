@@ -34,11 +34,8 @@ pub fn reversed(s: [Gf; SYNDROMES]) -> [u8; REVERSED]
     ensures { bytes result ≡ Reversed 95 (Row s) }
 {
     let mut down = [0u8; REVERSED];
-    let mut i: usize = SYNDROMES;
-    while i <= HIGHEST {
-        let g = s[HIGHEST - i];
-        down[i] = g.0;
-        i = i + 1;
+    for i in SYNDROMES..HIGHEST + 1 {
+        down[i] = s[HIGHEST - i].0;
     }
     down
 }
@@ -48,12 +45,9 @@ fn products(f: [Gf; COEFFICIENTS], t: &[u8; REVERSED], at: usize) -> [Gf; COEFFI
     requires { at ≤ 95 }
     ensures { poly result ≡ (λ i. poly f i ⊙ bytes t.now (at + i)) }
 {
-    let n = crate::extent(f);
     let mut out = [Gf::ZERO; COEFFICIENTS];
-    let mut q: usize = 0;
-    while q < n {
+    for q in 0..crate::extent(f) {
         out[q] = kernel::product(f[q], Gf(t[at + q]));
-        q = q + 1;
     }
     out
 }
@@ -67,10 +61,8 @@ pub fn convolve_reversed(f: [Gf; COEFFICIENTS], t: &[u8; REVERSED], r: usize) ->
     }
     let p = products(f, t, HIGHEST - r);
     let mut d = Gf::ZERO;
-    let mut j: usize = 0;
-    while j < COEFFICIENTS {
-        d = d.sum(p[j]);
-        j = j + 1;
+    for x in &p {
+        d = d.sum(*x);
     }
     d
 }
@@ -87,13 +79,5 @@ pub fn convolve(f: [Gf; COEFFICIENTS], s: [Gf; SYNDROMES], r: usize) -> Gf
 pub fn is_zero(row: [Gf; SYNDROMES]) -> bool
     ensures { result ≡ holds (zero? row) }
 {
-    let mut i: usize = 0;
-    while i < SYNDROMES {
-        let g = row[i];
-        if !g.is_zero() {
-            return false;
-        }
-        i = i + 1;
-    }
-    true
+    kernel::is_zero(&row)
 }

@@ -3,22 +3,19 @@
 --   capability p r   t_r, 0 past t_3
 --   first-root p     f: the first root is α^f
 --   last p           t_v
+--   Parsed, Answer   a profile or a refusal; nothing or a refusal
 --   answer_of a      the answer alone
 --   number_of q      the number of a refusal; answer_number a: 0, or that of the refusal
 --   unless_refused a x o   x, or o if the answer a is a refusal
 --   checks p i       the check symbols of subword i
 --   block_size p, data_size p   the symbols and the data symbols of a block
 --   data_start p i   the data symbols before subword i
-use Rattle.std.specs.Prelude.{ℕ, zero, suc, ◌+◌, ◌-◌, ◌*◌, cond, List, ltb, length}
+use Rattle.std.specs.Prelude.{ℕ, zero, suc, ◌+◌, ◌-◌, ◌*◌, cond, List, ltb, Result, Ok, Err}
 use Rattle.profile.specs.declared.Profile.{Profile}
 use Rattle.profile.specs.declared.Refusal.{Refusal}
 use Rattle.profile.specs.declared.Refusal.TheVariants.{ProfileSize, Subwords, Nested, Capabilities}
 use Rattle.profile.specs.declared.Refusal.TheVariants.{EqualCapabilities, Length, FirstRoot, InputSize}
 use Rattle.profile.specs.declared.Refusal.TheVariants.{OutputSize, Unsettled, NotCodeword, Subword}
-use Rattle.profile.specs.declared.Parsed.{Parsed}
-use Rattle.profile.specs.declared.Parsed.TheVariants.{Accepted, Refused}
-use Rattle.profile.specs.declared.Answer.{Answer}
-use Rattle.profile.specs.declared.Answer.TheVariants as answer
 
 abbrev pub capability : Profile → ℕ → ℕ
 capability p zero = p.t0
@@ -35,9 +32,17 @@ first-root p = p.first_root
 
 -- ---- answers
 
+-- a profile, or the refusal that says why the bytes are none
+abbrev pub Parsed : Type 0
+Parsed = Result Profile Refusal
+
+-- every question was answered by yes, or the first no
+abbrev pub Answer : Type 0
+Answer = Result Unit Refusal
+
 abbrev pub answer_of : Parsed → Answer
-answer_of (Accepted p) = answer.Accepted
-answer_of (Refused q) = answer.Refused q
+answer_of (Ok p) = Ok tt
+answer_of (Err q) = Err q
 
 abbrev pub number_of : Refusal → ℕ
 number_of ProfileSize = 1
@@ -55,13 +60,13 @@ number_of Subword = 10
 
 -- 0 says that every question was answered by yes
 abbrev pub answer_number : Answer → ℕ
-answer_number answer.Accepted = 0
-answer_number (answer.Refused q) = number_of q
+answer_number (Ok tt) = 0
+answer_number (Err q) = number_of q
 
 -- FORMAT 4.1: what a buffer holds in the end, x being what an accepted call gives, and o what it held
 abbrev pub unless_refused : Answer → List ℕ → List ℕ → List ℕ
-unless_refused answer.Accepted x o = x
-unless_refused (answer.Refused q) x o = o
+unless_refused (Ok tt) x o = x
+unless_refused (Err q) x o = o
 
 -- ---- sizes
 

@@ -4,25 +4,21 @@
 --   part a i block    the data symbols of subword i as they stand in the block, none if refused
 --   empty l           l has no entries
 --   refuses a         the answer is a refusal
-use Rattle.std.specs.Prelude.{ℕ, ◌+◌, ◌-◌, ◌*◌, Bool, true, false, List, [], ◌∷◌, take, drop}
-use Rattle.profile.specs.declared.Parsed.{Parsed}
-use Rattle.profile.specs.declared.Parsed.TheVariants.{Accepted, Refused}
-use Rattle.profile.specs.declared.Answer.{Answer}
-use Rattle.profile.specs.declared.Answer.TheVariants as answer
-use Rattle.profile.specs.Definition.{checks}
+use Rattle.std.specs.Prelude.{ℕ, ◌+◌, ◌-◌, ◌*◌, Bool, true, false, List, [], ◌∷◌, take, drop, Ok, Err}
+use Rattle.profile.specs.Definition.{Parsed, Answer, checks}
 
 abbrev pub between : ℕ → ℕ → List ℕ → List ℕ
 between a e l = take (e - a) (drop a l)
 
 -- the data positions of subword i: from its check symbols to its end
 abbrev pub part : Parsed → ℕ → List ℕ → List ℕ
-part (Accepted p) i block = between (i * p.length + checks p i) ((i + 1) * p.length) block
-part (Refused q) i block = []
+part (Ok p) i block = between (i * p.length + checks p i) ((i + 1) * p.length) block
+part (Err q) i block = []
 
 abbrev pub empty : List ℕ → Bool
 empty [] = true
 empty (x ∷ l) = false
 
 abbrev pub refuses : Answer → Bool
-refuses answer.Accepted = false
-refuses (answer.Refused q) = true
+refuses (Ok tt) = false
+refuses (Err q) = true

@@ -4,10 +4,9 @@
 --
 -- Proved: it is so of an accepted fetch; the data positions are in the block; they are some.
 use Rattle.std.specs.Prelude.{ℕ, zero, suc, ◌+◌, ◌-◌, ◌*◌, ◌≤◌, ◌<◌, ◌≡◌, refl, false, List, [], ◌∷◌, length, take}
-use Rattle.std.specs.Prelude.{drop}
+use Rattle.std.specs.Prelude.{drop, Ok}
 use Rattle.std.proofs.Common.{ap₂, mul-le-mul_right, suc-mul, add-one, arith, ltb-true, eqb-true, length-drop}
 use Rattle.profile.specs.declared.Profile.{Profile}
-use Rattle.profile.specs.declared.Parsed.TheVariants.{Accepted}
 use Rattle.profile.specs.Definition.{block_size, checks}
 use Rattle.profile.specs.declared.questions.Caller.TheVariants.{Fetch}
 use Rattle.profile.specs.Questions.{read, lent, fetching}
@@ -20,13 +19,13 @@ pub record Within (p : Profile) (s i : ℕ) : Type 0 where
   pub some : checks p i < p.length
   pub size : s ≡ block_size p
 
-pub fetching-below : (b : List ℕ) (s i : ℕ) (p : Profile) → fetching b s i ≡ Accepted p → i < p.subwords
+pub fetching-below : (b : List ℕ) (s i : ℕ) (p : Profile) → fetching b s i ≡ Ok p → i < p.subwords
 fetching-below b s i p e =
     let (_, _, own) = asked_yes Fetch (lent b s 0 i) (read b) p e in
     ltb-true i p.subwords own.subword_below
 
 -- n is a byte
-pub accepted : (b : List ℕ) (s i : ℕ) (p : Profile) → fetching b s i ≡ Accepted p → p.length ≤ 255 → Within p s i
+pub accepted : (b : List ℕ) (s i : ℕ) (p : Profile) → fetching b s i ≡ Ok p → p.length ≤ 255 → Within p s i
 accepted b s i p e small =
     let (_, common, own) = asked_yes Fetch (lent b s 0 i) (read b) p e in
     record {
@@ -43,7 +42,7 @@ end_in {p} {s} {i} fits =
 
 -- n symbols from the start of a subword on, without its check symbols
 pub part-is : (p : Profile) (i a e : ℕ) (block : List ℕ)
-    → a ≡ i * p.length + checks p i → e ≡ i * p.length + p.length → between a e block ≡ part (Accepted p) i block
+    → a ≡ i * p.length + checks p i → e ≡ i * p.length + p.length → between a e block ≡ part (Ok p) i block
 part-is p i a e block h k =
     let end : e ≡ (i + 1) * p.length = rw add-one (omega (arith, k, suc-mul i p.length)) in
     ap₂ (λ a e. between a e block) h end

@@ -2,6 +2,7 @@
 --
 -- Proved: the answer with the number 0 is no refusal (gives-accepted), and one with another number is (keeps-refused).
 use Rattle.std.specs.Prelude.{ℕ, zero, suc, ◌≤◌, ◌<◌, ◌≡◌, refl, Bool, true, false, not, List, length, get_or}
+use Rattle.std.specs.Prelude.{Ok, Err}
 use Rattle.std.proofs.Common.{sym, ap, ◌∙◌, arith, get_or-set_same}
 use Rattle.std.proofs.lemmas.List.{set-get_or}
 use Rattle.profile.specs.declared.Profile.{Profile}
@@ -9,9 +10,7 @@ use Rattle.profile.specs.declared.Refusal.{Refusal}
 use Rattle.profile.specs.declared.Refusal.TheVariants.{ProfileSize, Subwords, Nested, Capabilities}
 use Rattle.profile.specs.declared.Refusal.TheVariants.{EqualCapabilities, Length, FirstRoot, InputSize}
 use Rattle.profile.specs.declared.Refusal.TheVariants.{OutputSize, Unsettled, NotCodeword, Subword}
-use Rattle.profile.specs.declared.Answer.{Answer}
-use Rattle.profile.specs.declared.Answer.TheVariants.{Accepted, Refused}
-use Rattle.profile.specs.Definition.{capability, number_of, answer_number, unless_refused}
+use Rattle.profile.specs.Definition.{Answer, capability, number_of, answer_number, unless_refused}
 
 -- a test with `!`
 pub unless : (b : Bool) → not b ≡ true → b ≡ false
@@ -53,9 +52,9 @@ numbered Subword e = omega arith
 
 module _ (x o : List ℕ) where
   pub gives-accepted : (a : Answer) → answer_number a ≡ 0 → x ≡ unless_refused a x o
-  gives-accepted Accepted e = refl
-  gives-accepted (Refused q) e = absurd (numbered q e)
+  gives-accepted (Ok tt) e = refl
+  gives-accepted (Err q) e = absurd (numbered q e)
 
   pub keeps-refused : (a : Answer) → (answer_number a ≡ 0 → ⊥) → o ≡ unless_refused a x o
-  keeps-refused Accepted e = absurd (e refl)
-  keeps-refused (Refused q) e = refl
+  keeps-refused (Ok tt) e = absurd (e refl)
+  keeps-refused (Err q) e = refl

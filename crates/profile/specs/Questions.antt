@@ -12,18 +12,16 @@
 --   writing b d o, reading_of b d o, fetching b d i, extracting b d o    .. for a block that is written, that is
 --                                                      read, that is fetched from, of which the data are read
 use Rattle.std.specs.Prelude.{ℕ, zero, suc, ◌*◌, Bool, true, false, cond, ◌&&◌, ◌||◌, List, [], ◌∷◌, leb, ltb, eqb}
-use Rattle.std.specs.Prelude.{length, get_or}
+use Rattle.std.specs.Prelude.{length, get_or, Ok, Err}
 use Rattle.profile.specs.declared.Profile.{Profile}
 use Rattle.profile.specs.declared.Refusal.{Refusal}
 use Rattle.profile.specs.declared.Refusal.TheVariants.{ProfileSize, Subwords, Nested, Capabilities}
 use Rattle.profile.specs.declared.Refusal.TheVariants.{EqualCapabilities, Length, FirstRoot, InputSize}
 use Rattle.profile.specs.declared.Refusal.TheVariants.{OutputSize, Subword}
-use Rattle.profile.specs.declared.Parsed.{Parsed}
-use Rattle.profile.specs.declared.Parsed.TheVariants.{Accepted, Refused}
 use Rattle.profile.specs.declared.questions.Caller.{Caller}
 use Rattle.profile.specs.declared.questions.Caller.TheVariants.{Encoder, Decoder, Fetch, Extract, Card}
 use Rattle.profile.specs.declared.questions.Lent.{Lent}
-use Rattle.profile.specs.Definition.{capability, first-root, last, block_size, data_size}
+use Rattle.profile.specs.Definition.{Parsed, capability, first-root, last, block_size, data_size}
 
 -- ---- who asks
 
@@ -180,15 +178,15 @@ questions_of c = chosen c questions
 -- ---- asked
 
 abbrev pub put : Bool → Bool → Refusal → Parsed → Parsed
-put asks good q (Accepted p) = cond (cond asks good true) (Accepted p) (Refused q)
-put asks good q (Refused r) = Refused r
+put asks good q (Ok p) = cond (cond asks good true) (Ok p) (Err q)
+put asks good q (Err r) = Err r
 
 abbrev pub put_all : Caller → Lent → Profile → List Question → Parsed → Parsed
 put_all c l p [] a = a
 put_all c l p (q ∷ qs) a = put_all c l p qs (put (q.asks c) (q.good l p) q.refusal a)
 
 unfoldable pub asked : Caller → Lent → Profile → Parsed
-asked c l p = put_all c l p questions (Accepted p)
+asked c l p = put_all c l p questions (Ok p)
 
 -- ---- the bytes of a profile
 

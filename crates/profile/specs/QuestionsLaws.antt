@@ -13,6 +13,7 @@
 -- (none_means), and are accepted (none-accepted). Seven bytes are answered as they are with an eighth byte of 1
 -- (seven_means).
 use Rattle.std.specs.Prelude.{ℕ, ◌≤◌, ◌≡◌, refl, Bool, true, false, cond, ◌||◌, List, [], ◌∷◌, ltb, eqb, length, get_or}
+use Rattle.std.specs.Prelude.{Ok, Err}
 use Rattle.std.proofs.Common.{ap, ap₂, ◌∙◌, arith}
 use Rattle.std.proofs.Math.Path.{subst}
 use Rattle.profile.specs.declared.Profile.{Profile}
@@ -20,12 +21,10 @@ use Rattle.profile.specs.declared.Refusal.{Refusal}
 use Rattle.profile.specs.declared.Refusal.TheVariants.{ProfileSize, Subwords, Nested, Capabilities}
 use Rattle.profile.specs.declared.Refusal.TheVariants.{EqualCapabilities, Length, FirstRoot, InputSize}
 use Rattle.profile.specs.declared.Refusal.TheVariants.{OutputSize, Subword}
-use Rattle.profile.specs.declared.Parsed.{Parsed}
-use Rattle.profile.specs.declared.Parsed.TheVariants.{Accepted, Refused}
 use Rattle.profile.specs.declared.questions.Caller.{Caller}
 use Rattle.profile.specs.declared.questions.Caller.TheVariants.{Card}
 use Rattle.profile.specs.declared.questions.Lent.{Lent}
-use Rattle.profile.specs.Definition.{block_size, data_size}
+use Rattle.profile.specs.Definition.{Parsed, block_size, data_size}
 use Rattle.profile.specs.Questions.{Question, questions, put, put_all, asked, read, admitted, profile_of}
 use Rattle.profile.specs.Questions.{lent, encodes, decodes, fetches, extracts, good_subwords, good_nested}
 use Rattle.profile.specs.Questions.{good_capabilities, good_rising, good_length, good_root, good_size}
@@ -72,30 +71,27 @@ pair : {A B : Type 0} → A → B → A × B
 pair a b = (a, b)
 
 -- one question
-put_yes : (asks good : Bool) (q : Refusal) (a : Parsed) (r : Profile) → put asks good q a ≡ Accepted r
-    → (a ≡ Accepted r) × (cond asks good true ≡ true)
-put_yes asks good q (Accepted p) r e = go (cond asks good true) refl e
-  where
-    go : (b : Bool) → cond asks good true ≡ b → cond b (Accepted p) (Refused q) ≡ Accepted r
-        → (Accepted p ≡ Accepted r) × (cond asks good true ≡ true)
-    go true h e = (e, h)
-    go false h e = let z : ◌≡◌ {A = ℕ} 0 1 = cc in absurd (omega arith)
-put_yes asks good q (Refused s) r e = let z : ◌≡◌ {A = ℕ} 0 1 = cc in absurd (omega arith)
+put_yes : (asks good : Bool) (q : Refusal) (a : Parsed) (r : Profile) → put asks good q a ≡ Ok r
+    → (a ≡ Ok r) × (cond asks good true ≡ true)
+put_yes false good q (Ok p) r e = (e, refl)
+put_yes true true q (Ok p) r e = (e, refl)
+put_yes true false q (Ok p) r e = let z : ◌≡◌ {A = ℕ} 0 1 = cc in absurd (omega arith)
+put_yes asks good q (Err s) r e = let z : ◌≡◌ {A = ℕ} 0 1 = cc in absurd (omega arith)
 
 module _ (c : Caller) (l : Lent) (p : Profile) where
-  all_yes : (qs : List Question) (a : Parsed) (r : Profile) → put_all c l p qs a ≡ Accepted r
-      → (a ≡ Accepted r) × Passes c l p qs
+  all_yes : (qs : List Question) (a : Parsed) (r : Profile) → put_all c l p qs a ≡ Ok r
+      → (a ≡ Ok r) × Passes c l p qs
   all_yes [] a r e = (e, tt)
   all_yes (q ∷ qs) a r e =
       let (before, rest) = all_yes qs (put (q.asks c) (q.good l p) q.refusal a) r e in
       let (first, now) = put_yes (q.asks c) (q.good l p) q.refusal a r before in
       (first, (now, rest))
 
-  pub asked_yes : (r : Profile) → asked c l p ≡ Accepted r → (p ≡ r) × Common l.profile r × Own c l r
+  pub asked_yes : (r : Profile) → asked c l p ≡ Ok r → (p ≡ r) × Common l.profile r × Own c l r
   unfolding asked
   asked_yes r e =
       let (all, (q1, (q2, (q3, (q4, (q15, (q5, (q14, (data_in, (block_in, (block_out, (data-out, (q10, _))))))))))))) =
-      all_yes questions (Accepted p) r e in
+      all_yes questions (Ok p) r e in
       let same : p ≡ r = cc in (
         same,
         subst (Common l.profile) same
@@ -117,11 +113,11 @@ module _ (c : Caller) (l : Lent) (p : Profile) where
         }),
       )
 
-  all-passed : (qs : List Question) → Passes c l p qs → put_all c l p qs (Accepted p) ≡ Accepted p
+  all-passed : (qs : List Question) → Passes c l p qs → put_all c l p qs (Ok p) ≡ Ok p
   all-passed [] h = refl
   all-passed (q ∷ qs) h = rw h.0 (all-passed qs h.1)
 
-  pub asked-all : Common l.profile p → Own c l p → asked c l p ≡ Accepted p
+  pub asked-all : Common l.profile p → Own c l p → asked c l p ≡ Ok p
   unfolding asked
   asked-all common own =
       all-passed questions
@@ -157,21 +153,21 @@ pub asked_in_order : (c : Caller) (l : Lent) (p : Profile) → asked c l p ≡
     (put true (good_capabilities p) Capabilities
     (put true (good_nested p) Nested
     (put true (good_subwords p) Subwords
-    (put true (good_size l.profile) ProfileSize (Accepted p))))))))))))
+    (put true (good_size l.profile) ProfileSize (Ok p))))))))))))
 unfolding asked
 asked_in_order c l p = refl
 
-module _ (c : Caller) (b : List ℕ) (d o i : ℕ) (p : Profile) (e : admitted c b d o i ≡ Accepted p) where
+module _ (c : Caller) (b : List ℕ) (d o i : ℕ) (p : Profile) (e : admitted c b d o i ≡ Ok p) where
   pub admitted-read : read b ≡ p
   admitted-read = (asked_yes c (lent b d o i) (read b) p e).0
 
   -- the caller k, who lends s bytes of input and t of output and names the subword j
-  pub admitted_also : (k : Caller) (s t j : ℕ) → Own k (lent b s t j) p → admitted k b s t j ≡ Accepted p
+  pub admitted_also : (k : Caller) (s t j : ℕ) → Own k (lent b s t j) p → admitted k b s t j ≡ Ok p
   admitted_also k s t j own =
       let (same, common, _) = asked_yes c (lent b d o i) (read b) p e in
       ap (asked k (lent b s t j)) same ∙ asked-all k (lent b s t j) p common own
 
-  pub admitted-profile : profile_of b ≡ Accepted p
+  pub admitted-profile : profile_of b ≡ Ok p
   admitted-profile = admitted_also Card 0 0 0 (card_own (lent b 0 0 0) p)
 
 -- ---- what the bytes of a profile mean
@@ -202,6 +198,6 @@ pub seven_means : (c : Caller) (m v n t0 t1 t2 t3 d o i : ℕ)
 unfolding asked
 seven_means c m v n t0 t1 t2 t3 d o i = refl
 
-pub none-accepted : profile_of [] ≡ Accepted factory
+pub none-accepted : profile_of [] ≡ Ok factory
 unfolding asked
 none-accepted = refl

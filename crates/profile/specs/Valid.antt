@@ -10,14 +10,13 @@
 -- symbols, each has at least 2 t0, at most 48 and fewer than n; the data size counts the data positions, so data
 -- symbols have numbers below it.
 use Rattle.std.specs.Prelude.{ℕ, zero, suc, ◌+◌, ◌-◌, ◌*◌, ◌≤◌, ◌<◌, ◌≡◌, refl, Bool, true, false, cond, List, leb}
-use Rattle.std.specs.Prelude.{get_or}
+use Rattle.std.specs.Prelude.{get_or, Ok}
 use Rattle.std.proofs.Common.{◌∙◌, subst, zero-mul, suc-mul, add-zero, add-suc, arith, leb-true, ltb-true, eqb-true}
 use Rattle.std.proofs.Common.{le-leb, lt-ltb, le-ltb, eq-eqb}
 use Rattle.std.proofs.Math.Bool.{and-eq-true_iff}
 use Rattle.std.proofs.Math.Nat.{sub-zero}
 use Rattle.std.proofs.Math.Decide.{dec_lt}
 use Rattle.profile.specs.declared.Profile.{Profile}
-use Rattle.profile.specs.declared.Parsed.TheVariants.{Accepted}
 use Rattle.profile.specs.declared.questions.Caller.{Caller}
 use Rattle.profile.specs.declared.questions.Caller.TheVariants.{Encoder, Decoder, Extract, Card}
 use Rattle.profile.specs.declared.questions.Lent.{Lent}
@@ -91,7 +90,7 @@ common-valid s p common small =
       root = leb-true _ _ common.root_below;
     }
 
-pub asked-valid : (c : Caller) (l : Lent) (p q : Profile) → asked c l p ≡ Accepted q → p.length ≤ 255 → Valid q
+pub asked-valid : (c : Caller) (l : Lent) (p q : Profile) → asked c l p ≡ Ok q → p.length ≤ 255 → Valid q
 asked-valid c l p q e small =
     let (same, common, _) = asked_yes c l p q e in
     common-valid l.profile q common (subst (λ q. q.length ≤ 255) same small)
@@ -132,31 +131,31 @@ module _ (p : Profile) where
 
 -- what the sizes are for whoever writes or reads a block; n is a byte
 module _ (b : List ℕ) (d o : ℕ) (p : Profile) where
-  passed : (c : Caller) → admitted c b d o 0 ≡ Accepted p → p.length ≤ 255 → Valid p × Own c (lent b d o 0) p
+  passed : (c : Caller) → admitted c b d o 0 ≡ Ok p → p.length ≤ 255 → Valid p × Own c (lent b d o 0) p
   passed c e small =
       let (_, common, own) = asked_yes c (lent b d o 0) (read b) p e in
       (common-valid _ p common small, own)
 
-  pub writing-passed : writing b d o ≡ Accepted p → p.length ≤ 255 → Valid p × (d ≡ data_size p) × (o ≡ block_size p)
+  pub writing-passed : writing b d o ≡ Ok p → p.length ≤ 255 → Valid p × (d ≡ data_size p) × (o ≡ block_size p)
   writing-passed e small =
       let (valid, own) = passed Encoder e small in
       (valid, eqb-true d _ own.input_data, eqb-true o _ own.output_block)
 
-  pub reading-passed : reading_of b d o ≡ Accepted p → p.length ≤ 255
+  pub reading-passed : reading_of b d o ≡ Ok p → p.length ≤ 255
       → Valid p × (d ≡ block_size p) × (o ≡ block_size p)
   reading-passed e small =
       let (valid, own) = passed Decoder e small in
       (valid, eqb-true d _ own.input_block, eqb-true o _ own.output_block)
 
-  pub extracting-passed : extracting b d o ≡ Accepted p → p.length ≤ 255
+  pub extracting-passed : extracting b d o ≡ Ok p → p.length ≤ 255
       → Valid p × (d ≡ block_size p) × (o ≡ data_size p)
   extracting-passed e small =
       let (valid, own) = passed Extract e small in
       (valid, eqb-true d _ own.input_block, eqb-true o _ own.output_data)
 
   -- the sizes are right
-  module _ (accepted : profile_of b ≡ Accepted p) where
-    pub writing-admitted : Rising p → d ≡ data_size p → o ≡ block_size p → writing b d o ≡ Accepted p
+  module _ (accepted : profile_of b ≡ Ok p) where
+    pub writing-admitted : Rising p → d ≡ data_size p → o ≡ block_size p → writing b d o ≡ Ok p
     writing-admitted rises input output = admitted_also Card b 0 0 0 p accepted Encoder d o 0 (record {
       rising = is-rising p rises;
       input_data = eq-eqb _ _ input;
@@ -166,7 +165,7 @@ module _ (b : List ℕ) (d o : ℕ) (p : Profile) where
       subword_below = refl;
     })
 
-    pub reading-admitted : d ≡ block_size p → o ≡ block_size p → reading_of b d o ≡ Accepted p
+    pub reading-admitted : d ≡ block_size p → o ≡ block_size p → reading_of b d o ≡ Ok p
     reading-admitted input output = admitted_also Card b 0 0 0 p accepted Decoder d o 0 (record {
       rising = refl;
       input_data = refl;
@@ -176,7 +175,7 @@ module _ (b : List ℕ) (d o : ℕ) (p : Profile) where
       subword_below = refl;
     })
 
-    pub extracting-admitted : d ≡ block_size p → o ≡ data_size p → extracting b d o ≡ Accepted p
+    pub extracting-admitted : d ≡ block_size p → o ≡ data_size p → extracting b d o ≡ Ok p
     extracting-admitted input output = admitted_also Card b 0 0 0 p accepted Extract d o 0 (record {
       rising = refl;
       input_data = refl;
@@ -187,7 +186,7 @@ module _ (b : List ℕ) (d o : ℕ) (p : Profile) where
     })
 
 -- what a writer accepts: d bytes of data, and a block of o bytes
-module _ (b : List ℕ) (d o : ℕ) (p : Profile) (e : writing b d o ≡ Accepted p) where
+module _ (b : List ℕ) (d o : ℕ) (p : Profile) (e : writing b d o ≡ Ok p) where
   pub writing-rising : Rising p
   writing-rising =
       let (_, common, own) = asked_yes Encoder (lent b d o 0) (read b) p e in
@@ -195,7 +194,7 @@ module _ (b : List ℕ) (d o : ℕ) (p : Profile) (e : writing b d o ≡ Accepte
       rising-is p v (second_above p v common.capabilities) own.rising
 
   -- is accepted by a reader, and by one who reads the data
-  pub writing_reads : (reading_of b o o ≡ Accepted p) × (extracting b o d ≡ Accepted p)
+  pub writing_reads : (reading_of b o o ≡ Ok p) × (extracting b o d ≡ Ok p)
   writing_reads =
       let (_, _, own) = asked_yes Encoder (lent b d o 0) (read b) p e in
       let profile = admitted-profile Encoder b d o 0 p e in
@@ -205,7 +204,7 @@ module _ (b : List ℕ) (d o : ℕ) (p : Profile) (e : writing b d o ≡ Accepte
 
 -- byte 2 of a profile is the length, if there is one
 pub admitted-valid : (c : Caller) (b : List ℕ) (d o i : ℕ) (q : Profile)
-    → admitted c b d o i ≡ Accepted q → get_or b 2 0 ≤ 255
+    → admitted c b d o i ≡ Ok q → get_or b 2 0 ≤ 255
     → Valid q
 admitted-valid c b d o i q e small = asked-valid c (lent b d o i) (read b) q e (read_length b small)
 

@@ -6,22 +6,20 @@ ghost use Rattle.profile.specs.FetchDefinition.{part as Part, empty, refuses};
 ghost use Rattle.profile.specs.FetchLaws.{Within};
 
 use crate::questions::Caller;
-use crate::{Answer, Parsed, Profile};
+use crate::{Profile, Refusal};
 
 // The answer to a fetch of subword i.
-pub fn answer(profile: &[u8], block: &[u8], i: usize) -> Answer
+pub fn answer(profile: &[u8], block: &[u8], i: usize) -> Result<(), Refusal>
     ensures { result ≡ answer_of (fetching profile.now (length block.now) i) }
 {
-    match crate::questions::admit(Caller::Fetch, profile, block.len(), 0, i) {
-        Parsed::Accepted(_) => Answer::Accepted,
-        Parsed::Refused(q) => Answer::Refused(q),
-    }
+    crate::questions::admit(Caller::Fetch, profile, block.len(), 0, i)?;
+    Ok(())
 }
 
 // The data positions of subword i, as a part of the block.
 pub fn positions<'a>(p: Profile, block: &'a [u8], i: usize) -> &'a [u8]
     requires { Within p (length block.now) i }
-    ensures result_value { result.now ≡ Part (Parsed.Accepted p) i block.now }
+    ensures result_value { result.now ≡ Part (Ok p) i block.now }
     ensures some { empty result.now ≡ false }
 {
     let n = p.length as usize;
@@ -39,7 +37,7 @@ pub fn part<'a>(profile: &[u8], block: &'a [u8], i: usize) -> &'a [u8]
         refuses (answer_of (fetching profile.now (length block.now) i)) }
 {
     match crate::questions::admit(Caller::Fetch, profile, block.len(), 0, i) {
-        Parsed::Accepted(p) => positions(p, block, i),
-        Parsed::Refused(_) => &block[0..0],
+        Ok(p) => positions(p, block, i),
+        Err(_) => &block[..0],
     }
 }

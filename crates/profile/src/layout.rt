@@ -5,7 +5,7 @@ ghost use Rattle.profile.specs.Definition.{block_size as BlockSize, data_size as
 ghost use Rattle.profile.specs.Questions.{profile_of};
 ghost use Rattle.profile.specs.LayoutDefinition.{if_accepted, start as Start};
 
-use crate::{Parsed, Profile};
+use crate::Profile;
 
 // The symbols of a block, and how many of them are data; 0 and 0 if the profile is refused.
 #[derive(Clone, Copy)]
@@ -20,11 +20,11 @@ pub fn sizes_of(profile: &[u8]) -> Sizes
     ensures payload { result.payload ≡ if_accepted DataSize (profile_of profile.now) }
 {
     match crate::questions::parse(profile) {
-        Parsed::Accepted(p) => Sizes {
+        Ok(p) => Sizes {
             block: p.block_size(),
             payload: p.data_size(),
         },
-        Parsed::Refused(_) => Sizes {
+        Err(_) => Sizes {
             block: 0,
             payload: 0,
         },
@@ -42,8 +42,5 @@ fn start(p: Profile, i: u8) -> usize
 pub fn accepted_start(profile: &[u8], i: u8) -> usize
     ensures { result ≡ if_accepted (λ p. Start p i) (profile_of profile.now) }
 {
-    match crate::questions::parse(profile) {
-        Parsed::Accepted(p) => start(p, i),
-        Parsed::Refused(_) => 0,
-    }
+    crate::questions::parse(profile).map_or(0, |p| start(p, i))
 }

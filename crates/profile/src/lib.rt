@@ -5,8 +5,8 @@ pub mod fetch;
 pub mod layout;
 pub mod questions;
 
-ghost use Rattle.std.specs.Prelude.{◌-◌, ◌*◌, ◌<◌, ◌^◌, ◌≡◌};
-ghost use Rattle.profile.specs.Definition.{capability as Capability, number_of, answer_number, checks as Checks};
+ghost use Rattle.std.specs.Prelude.{◌*◌, ◌<◌, ◌^◌, ◌≡◌, MatchResult};
+ghost use Rattle.profile.specs.Definition.{capability as Capability, number_of, checks as Checks};
 ghost use Rattle.profile.specs.Definition.{block_size as BlockSize, capability_sum as Sum, data_size as DataSize};
 
 // The most subwords of a block.
@@ -34,8 +34,9 @@ pub struct Profile {
     pub first_root: u8,
 }
 
-// The refusals, each after the question that said no.
-#[derive(Clone, Copy)]
+// The refusals, each after the question that said no. What is answered to a caller whose buffers were judged is a
+// `Result`: every question was answered by yes, or the first no.
+#[derive(Clone, Copy, Debug, PartialEq, Eq)]
 pub enum Refusal {
     ProfileSize,
     Subwords,
@@ -52,48 +53,35 @@ pub enum Refusal {
     Subword,
 }
 
-#[derive(Clone, Copy)]
-pub enum Parsed {
-    Accepted(Profile),
-    Refused(Refusal),
-}
-
-// What is answered to a caller whose buffers were judged: every question was answered by yes, or the first no.
-#[derive(Clone, Copy)]
-pub enum Answer {
-    Accepted,
-    Refused(Refusal),
-}
-
 // The number of a refusal: FORMAT 4.
-pub fn number(r: Refusal) -> u8
-    ensures { result ≡ number_of r }
-{
-    match r {
-        Refusal::ProfileSize => 1,
-        Refusal::Subwords => 2,
-        Refusal::Nested => 3,
-        Refusal::Capabilities => 4,
-        Refusal::EqualCapabilities => 15,
-        Refusal::Length => 5,
-        Refusal::FirstRoot => 14,
-        Refusal::InputSize => 6,
-        Refusal::OutputSize => 7,
-        Refusal::Unsettled(_) => 8,
-        Refusal::NotCodeword => 9,
-        Refusal::Subword => 10,
+impl From<Refusal> for u8 {
+    ghost from_gives = { λ q n. n ≡ number_of q };
+
+    fn from(q: Refusal) -> u8 {
+        match q {
+            Refusal::ProfileSize => 1,
+            Refusal::Subwords => 2,
+            Refusal::Nested => 3,
+            Refusal::Capabilities => 4,
+            Refusal::EqualCapabilities => 15,
+            Refusal::Length => 5,
+            Refusal::FirstRoot => 14,
+            Refusal::InputSize => 6,
+            Refusal::OutputSize => 7,
+            Refusal::Unsettled(_) => 8,
+            Refusal::NotCodeword => 9,
+            Refusal::Subword => 10,
+        }
     }
 }
 
-impl Answer {
-    // The number of an answer: 0, or that of the refusal.
-    pub fn number(self) -> u8
-        ensures { result ≡ answer_number self }
-    {
-        match self {
-            Answer::Accepted => 0,
-            Answer::Refused(r) => number(r),
-        }
+// The number of an answer: 0, or that of the refusal.
+pub fn number<E: Into<u8>>(answer: Result<(), E>) -> u8
+    ensures { MatchResult answer (λ _. result ≡ 0) (λ q. E.converts q result) }
+{
+    match answer {
+        Ok(()) => 0,
+        Err(q) => q.into(),
     }
 }
 
@@ -102,19 +90,13 @@ impl Profile {
     pub fn capability(self, r: u8) -> u8
         ensures { result ≡ Capability self r }
     {
-        if r == 0 {
-            return self.t0;
+        match r {
+            0 => self.t0,
+            1 => self.t1,
+            2 => self.t2,
+            3 => self.t3,
+            _ => 0,
         }
-        if r == 1 {
-            return self.t1;
-        }
-        if r == 2 {
-            return self.t2;
-        }
-        if r == 3 {
-            return self.t3;
-        }
-        0
     }
 
     // How many check symbols subword i has.
@@ -140,32 +122,22 @@ impl Profile {
         ensures small { result < 2 ^ 16 }
     {
         let mut n: usize = 0;
-        let mut r: u8 = 0;
-        while r < self.nested {
-            r = r + 1;
-            n = n + self.capability(r) as usize;
+        for r in 0..self.nested {
+            n += self.capability(r + 1) as usize;
         }
         n
-    }
-
-    // How many subwords there are from v on: m - v.
-    fn others(self) -> u8
-        ensures { result ≡ self.subwords - self.nested }
-    {
-        if self.subwords < self.nested {
-            return 0;
-        }
-        self.subwords - self.nested
     }
 
     // How many data symbols a block has.
     pub fn data_size(self) -> usize
         ensures { result ≡ DataSize self }
     {
-        let all = self.block_size();
         let first = self.sum();
-        let rest = product(self.others(), self.t0);
-        minus(minus(all, 2 * first), 2 * rest)
+        let others = self.subwords.saturating_sub(self.nested);
+        let rest = product(others, self.t0);
+        self.block_size()
+            .saturating_sub(2 * first)
+            .saturating_sub(2 * rest)
     }
 }
 
@@ -174,14 +146,4 @@ fn product(a: u8, b: u8) -> usize
     ensures small { result < 2 ^ 16 }
 {
     a as usize * b as usize
-}
-
-// The difference a - b, or 0 if b is more.
-fn minus(a: usize, b: usize) -> usize
-    ensures { result ≡ a - b }
-{
-    if a < b {
-        return 0;
-    }
-    a - b
 }

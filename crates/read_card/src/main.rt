@@ -7,8 +7,8 @@ use std::io;
 use stream::Stream;
 
 // Tells what failed, and why.
-fn fail(rt: HostRuntime, what: &str, x: Stream) -> io::Result<()> {
-    match stream::reason(x) {
+fn fail(rt: HostRuntime, what: &str, x: &Stream) -> io::Result<()> {
+    match x.reason() {
         Some(error) => eprintln!(rt; "{what}: {error}"),
         None => eprintln!(rt; "{what}"),
     }
@@ -16,11 +16,11 @@ fn fail(rt: HostRuntime, what: &str, x: Stream) -> io::Result<()> {
 
 fn main(rt: HostRuntime) -> io::Result<()> {
     let x = card::list::print(rt.stdin(), rt.stdout());
-    if stream::is_unread(x) {
-        return fail(rt, "read_card: the card cannot be read", x);
+    if x.is_unread() {
+        return fail(rt, "read_card: the card cannot be read", &x);
     }
-    if stream::is_unwritten(x) {
-        return fail(rt, "read_card: the list cannot be written", x);
+    if x.is_unwritten() {
+        return fail(rt, "read_card: the list cannot be written", &x);
     }
     Ok(())
 }

@@ -4,13 +4,12 @@
 --   Claim s    what the sample says, in the words of the definitions
 --   samples    the table
 --   All P l    P holds of every sample of the list l
-use Rattle.std.specs.Prelude.{ℕ, ◌≡◌, List, [], ◌∷◌, map, ℤ, pos, negsuc, length}
+use Rattle.std.specs.Prelude.{ℕ, ◌≡◌, List, [], ◌∷◌, map, ℤ, pos, negsuc, length, Ok}
 use Rattle.std.proofs.Math.Option.{some}
 use Rattle.field.specs.Definition.{◌⊙◌, of, byte}
 use Rattle.series.specs.Array.{bytes}
 use Rattle.key_equation.specs.Run.{plain, scaled}
 use Rattle.key_equation.specs.Ends.{finish}
-use Rattle.profile.specs.declared.Parsed.TheVariants.{Accepted}
 use Rattle.profile.specs.Definition.{data_size}
 use Rattle.profile.specs.Questions.{read, profile_of}
 use Rattle.code.specs.Encoding.{encoding}
@@ -28,7 +27,7 @@ pub data Sample : Type 0 where
 unfoldable pub Claim : Sample → Type 0
 Claim (product a b c) = byte (of a ⊙ of b) ≡ c
 Claim (written b d s) =
-    (profile_of b ≡ Accepted (read b)) × (length d ≡ data_size (read b))
+    (profile_of b ≡ Ok (read b)) × (length d ≡ data_size (read b))
     × (encoding (read b) (map of d) ≡ some (map of s))
 Claim (plain_run S Λ B γ k) =
     (finish plain (map of S ∷ [])).state ≡ record { Λ = bytes Λ; B = bytes B; γ = of γ; k = k }

@@ -7,7 +7,7 @@
 --   encodes p d s   the block s encodes the data d: its symbols in the data positions, and each syndrome that the
 --                   codeword check walks
 use Rattle.std.specs.Prelude.{ℕ, ◌+◌, ◌<◌, ◌≡◌, refl, Bool, true, false, ◌&&◌, List, T, eqb, leb, ℤ, pos, negsuc}
-use Rattle.std.specs.Prelude.{length, get_or}
+use Rattle.std.specs.Prelude.{length, get_or, Ok, Err}
 use Rattle.std.proofs.Common.{sym, ap, ◌∙◌, arith, eqb→eq, leb→le}
 use Rattle.std.proofs.Math.Path.{fun_ext}
 use Rattle.std.proofs.Math.Decide.{dec_lt}
@@ -17,9 +17,7 @@ use Rattle.series.specs.Series.{Series}
 use Rattle.series.specs.Degree.{below}
 use Rattle.series.specs.Array.{bytes, below-read}
 use Rattle.profile.specs.declared.Profile.{Profile}
-use Rattle.profile.specs.declared.Parsed.{Parsed}
-use Rattle.profile.specs.declared.Parsed.TheVariants.{Accepted, Refused}
-use Rattle.profile.specs.Definition.{checks, data_length, data_start}
+use Rattle.profile.specs.Definition.{Parsed, checks, data_length, data_start}
 use Rattle.profile.specs.declared.questions.Caller.TheVariants.{Card}
 use Rattle.profile.specs.Questions.{read, profile_of}
 use Rattle.profile.specs.QuestionsLaws.{admitted-read}
@@ -66,23 +64,23 @@ sameℤ-is (negsuc a) (negsuc b) t = ap negsuc (eqb→eq a b t)
 -- ---- profiles
 
 unfoldable pub passes : Parsed → Bool
-passes (Accepted p) = true
-passes (Refused q) = false
+passes (Ok p) = true
+passes (Err q) = false
 
 -- every question says yes, and byte 2, the length, is at most 255
 unfoldable pub accepted : List ℕ → Bool
 accepted b = passes (profile_of b) && leb (get_or b 2 0) 255
 
-pub accepted-is : (b : List ℕ) → T (accepted b) → (profile_of b ≡ Accepted (read b)) × Valid (read b)
+pub accepted-is : (b : List ℕ) → T (accepted b) → (profile_of b ≡ Ok (read b)) × Valid (read b)
 unfolding accepted passes
 accepted-is b t =
     let (t0, t1) = and_both (passes (profile_of b)) _ t in
     let e = go (profile_of b) refl t0 in
     (e, admitted-valid Card b 0 0 0 (read b) e (leb→le (get_or b 2 0) 255 t1))
   where
-    go : (a : Parsed) → profile_of b ≡ a → T (passes a) → profile_of b ≡ Accepted (read b)
-    go (Accepted p) e t = e ∙ ap Accepted (sym (admitted-read Card b 0 0 0 p e))
-    go (Refused q) e t = absurd t
+    go : (a : Parsed) → profile_of b ≡ a → T (passes a) → profile_of b ≡ Ok (read b)
+    go (Ok p) e t = e ∙ ap Ok (sym (admitted-read Card b 0 0 0 p e))
+    go (Err q) e t = absurd t
 
 -- ---- blocks
 

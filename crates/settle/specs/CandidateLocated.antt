@@ -2,14 +2,14 @@
 --
 --   Walking k L Λ Ω p missing pattern   at position p: the candidate at the positions below p; how many of L roots were
 --                                       not met there
---   Walked n k L Λ Ω whole pattern      at the end: the candidate below some position up to n; all L roots were met
---                                       below it, or there are fewer below n
+--   Met n k L Λ Ω pattern               at the end: the candidate below some position up to n, all L roots below it
+--   Walked n k L Λ Ω found              the pattern that was found is so; where none was, there are fewer roots below n
 --
 -- Proved: the walk's start (walking_start), its next position after a root (walking-root) and after another one
 -- (walking-other), and its two ends (walked_all, walked-few); the pattern has no change beyond position n - 1
--- (walked-below).
-use Rattle.std.specs.Prelude.{ℕ, ◌+◌, ◌-◌, ◌≤◌, ◌<◌, ◌≡◌, refl, ◌≢◌, Bool, true, false, List, set, replicate}
-use Rattle.std.proofs.Common.{sym, ap, ap₂, ◌∙◌, true≢false, add-one, arith}
+-- (met-below).
+use Rattle.std.specs.Prelude.{ℕ, ◌+◌, ◌-◌, ◌≤◌, ◌<◌, ◌≡◌, refl, ◌≢◌, List, set, replicate, Option, MatchOption}
+use Rattle.std.proofs.Common.{sym, ap, ap₂, ◌∙◌, add-one, arith}
 use Rattle.field.specs.declared.Gf.{Gf}
 use Rattle.field.specs.Field.{F, 𝟎, ◌⊙◌, inv, val}
 use Rattle.series.specs.Series.{Series}
@@ -17,7 +17,7 @@ use Rattle.series.specs.Shift.{cut, cut_high}
 use Rattle.series.specs.Degree.{below}
 use Rattle.series.specs.Value.{value, value-more, odd}
 use Rattle.series.specs.Array.{values, Filled, filled_none, filled_more, filled_skip}
-use Rattle.series.specs.Word.{weight, weight-none, weight_skip, weight-take, weight_le, weight_split}
+use Rattle.series.specs.Word.{weight, weight-none, weight_skip, weight-take}
 use Rattle.settling.specs.Locator.{W, lead-inv}
 use Rattle.settling.specs.Candidate.{candidate, candidate-root, candidate-other, hits, hits-root, hits-other}
 
@@ -25,12 +25,14 @@ pub record Walking (k L : ℕ) (Λ Ω : Series) (p missing : ℕ) (pattern : Lis
   pub filled : Filled 255 p (candidate k Λ Ω) pattern
   pub roots : weight p (hits k Λ) + missing ≡ L
 
-pub record Walked (n k L : ℕ) (Λ Ω : Series) (whole : Bool) (pattern : List Gf) : Type 0 where
+pub record Met (n k L : ℕ) (Λ Ω : Series) (pattern : List Gf) : Type 0 where
   pub end : ℕ
   pub room : end ≤ n
   pub is : values pattern ≡ cut end (candidate k Λ Ω)
-  pub all : whole ≡ true → weight end (hits k Λ) ≡ L
-  pub few : whole ≡ false → weight n (hits k Λ) < L
+  pub all : weight end (hits k Λ) ≡ L
+
+abbrev pub Walked : (n k L : ℕ) (Λ Ω : Series) → Option (List Gf) → Type 0
+Walked n k L Λ Ω found = MatchOption found (weight n (hits k Λ) < L) (Met n k L Λ Ω)
 
 -- Forney's formula, with the coefficients that Ω has
 pub candidate-at : (k m : ℕ) (Λ Ω : Series) (p : ℕ) → value k Λ (W p) ≡ 𝟎 → below m Ω → m ≤ k
@@ -65,31 +67,11 @@ module _ {k L : ℕ} {Λ Ω : Series} where
           roots = rw add-one (omega (arith, weight_skip p (hits k Λ) (hits-other k Λ p z), w.roots));
         }
 
-    pub walked_all : (n : ℕ) → p ≤ n → missing ≡ 0 → Walked n k L Λ Ω true pattern
-    walked_all n h z = record {
-      end = p;
-      room = h;
-      is = w.filled.is;
-      all = λ e. omega (arith, w.roots);
-      few = λ e. absurd (true≢false e);
-    }
+    pub walked_all : (n : ℕ) → p ≤ n → missing ≡ 0 → Met n k L Λ Ω pattern
+    walked_all n h z = record { end = p; room = h; is = w.filled.is; all = omega (arith, w.roots) }
 
-    pub walked-few : (n : ℕ) → p ≤ n → n - p < missing → Walked n k L Λ Ω false pattern
-    walked-few n h l = record {
-      end = p;
-      room = h;
-      is = w.filled.is;
-      all = λ e. absurd (true≢false (sym e));
-      few = λ _. let e : n ≡ p + (n - p) = omega arith in
-          omega (
-            arith,
-            ap (λ i. weight i (hits k Λ)) e,
-            weight_split p (n - p) (hits k Λ),
-            weight_le (n - p) (λ i. hits k Λ (p + i)),
-            w.roots,
-          );
-    }
+    pub walked-few : (n : ℕ) → p ≡ n → missing ≢ 0 → weight n (hits k Λ) < L
+    walked-few n e h = rw (← e) (omega (arith, w.roots))
 
-pub walked-below : {n k L : ℕ} {Λ Ω : Series} {whole : Bool} {pattern : List Gf} → Walked n k L Λ Ω whole pattern
-    → below n (values pattern)
-walked-below w i h = ap (λ (f : Series). f i) w.is ∙ cut_high w.end _ i (omega (arith, w.room))
+pub met-below : {n k L : ℕ} {Λ Ω : Series} {pattern : List Gf} → Met n k L Λ Ω pattern → below n (values pattern)
+met-below w i h = ap (λ (f : Series). f i) w.is ∙ cut_high w.end _ i (omega (arith, w.room))

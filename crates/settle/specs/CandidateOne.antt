@@ -2,8 +2,8 @@
 --
 -- Proved: the position by logarithms (one_place); what stands there is the walk's answer, where p is below n
 -- (one_found) and where it is not (one_none).
-use Rattle.std.specs.Prelude.{ℕ, suc, ◌+◌, ◌-◌, ◌≤◌, ◌<◌, ◌%◌, ◌≡◌, ◌≢◌, true, false, set, replicate}
-use Rattle.std.proofs.Common.{sym, ap, ap₂, ◌∙◌, true≢false, add-one, arith}
+use Rattle.std.specs.Prelude.{ℕ, suc, ◌+◌, ◌-◌, ◌≤◌, ◌<◌, ◌%◌, ◌≡◌, ◌≢◌, set, replicate}
+use Rattle.std.proofs.Common.{sym, ap, ap₂, ◌∙◌, add-one, arith}
 use Rattle.field.specs.declared.Gf.{Gf}
 use Rattle.field.specs.Field.{F, 𝟎, 𝟏, α, ◌⊕◌, ◌⊙◌, inv, val, log, ⊕_self, ⊕-equal, zero-⊕, ⊙-ring}
 use Rattle.field.proofs.Field.{⊙_cancel}
@@ -19,7 +19,7 @@ use Rattle.series.specs.Array.{Filled, filled_none, filled_more}
 use Rattle.series.specs.Word.{weight, weight-O, weight_cong, weight-take}
 use Rattle.settling.specs.Locator.{X, W, X-W}
 use Rattle.settling.specs.Candidate.{candidate, candidate-other, hits, hits-root, hits-other}
-use Rattle.settle.specs.CandidateLocated.{Walked, candidate-at}
+use Rattle.settle.specs.CandidateLocated.{Met, candidate-at}
 
 pub log-small : (x : F) (i : ℕ) → i ≡ log x → i < 255
 log-small x i e = omega (arith, log_lt x)
@@ -87,22 +87,15 @@ module _ (Λ Ω : Series) (p : ℕ) (small : p < 255) (nonzero : Λ 0 ≢ 𝟎) 
 
   pub one_found : (n m : ℕ) (y : Gf) (b : F)
       → p < n → below m Ω → m ≤ 2 → Λ 1 ≢ 𝟎 → val y ≡ value m Ω (W p) ⊙ inv b → b ≡ Λ 1
-      → Walked n 2 1 Λ Ω true (set (replicate 255 (record { 0 = 0 })) p y)
+      → Met n 2 1 Λ Ω (set (replicate 255 (record { 0 = 0 })) p y)
   one_found n m y b h few l other e is = record {
     end = p + 1;
     room = omega arith;
     is = (filled_more y nothing_before small
         (e ∙ ap (λ t. value m Ω (W p) ⊙ inv t) is ∙ sym (candidate-at 2 m Λ Ω p root few l
         ∙ ap (λ t. W p ⊙ value m Ω (W p) ⊙ inv t) bottom ∙ quotient _ other))).is;
-    all = λ _. rw add-one (weight-take p (hits 2 Λ) (hits-root 2 Λ p root) ∙ ap suc (no-hits p (omega arith)));
-    few = λ f. absurd (true≢false f);
+    all = rw add-one (weight-take p (hits 2 Λ) (hits-root 2 Λ p root) ∙ ap suc (no-hits p (omega arith)));
   }
 
-  pub one_none : (n : ℕ) → n ≤ p → Walked n 2 1 Λ Ω false (replicate 255 (record { 0 = 0 }))
-  one_none n h = record {
-    end = 0;
-    room = omega arith;
-    is = (filled_none 255 (candidate 2 Λ Ω)).is;
-    all = λ f. absurd (true≢false (sym f));
-    few = λ _. omega (arith, no-hits n h);
-  }
+  pub one_none : (n : ℕ) → n ≤ p → weight n (hits 2 Λ) < 1
+  one_none n h = omega (arith, no-hits n h)

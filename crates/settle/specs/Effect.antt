@@ -5,9 +5,10 @@
 --
 -- Proved: the syndromes of a change y at position p are X p times y, and each next one X p times the one before
 -- (change-is); the exponents of these (first-exponent, next-exponent); a loop over the positions goes on by effect-more
--- and count-more; what the test of a pattern looks at (test-long, test_short).
-use Rattle.std.specs.Prelude.{ℕ, suc, ◌+◌, ◌*◌, ◌≤◌, ◌<◌, ◌%◌, ◌≡◌, ◌≢◌, false, replicate}
-use Rattle.std.proofs.Common.{sym, ap, ap₂, ◌∙◌, add-one, arith}
+-- and count-more; what the test of a pattern looks at (test-long, test-passed, test-failed).
+use Rattle.std.specs.Prelude.{ℕ, suc, ◌+◌, ◌*◌, ◌≤◌, ◌<◌, ◌%◌, ◌≡◌, ◌≢◌, true, false, replicate}
+use Rattle.std.proofs.Common.{sym, ap, ap₂, ◌∙◌, true≢false, add-one, arith}
+use Rattle.std.proofs.Math.Bool.{decide_iff}
 use Rattle.std.proofs.Math.Path.{fun_ext}
 use Rattle.std.proofs.Math.Logic.{ite}
 use Rattle.field.specs.Field.{F, 𝟎, α, ◌⊙◌, ◌≟◌, of, of_zero, log, ⊙-ring, ⊙_comm, pow}
@@ -17,11 +18,11 @@ use Rattle.series.specs.Series.{Series, O, K, ◌⊞◌, ◌⊠◌, ⊠-ring, O-
 use Rattle.series.specs.Shift.{cut, cut_low, cut-none, cut_unique, cut-⊞, cut-K-⊠}
 use Rattle.series.specs.Value.{value_none, value-last}
 use Rattle.series.specs.Array.{bytes, read-zeros}
-use Rattle.series.specs.Decide.{holds, holds_yes, holds_no, all?}
+use Rattle.series.specs.Decide.{holds, holds_yes, all?}
 use Rattle.series.specs.Word.{weight}
 use Rattle.code.specs.Word.{root, syndrome}
 use Rattle.code.specs.Systematic.{syndrome-is}
-use Rattle.settling.specs.Definition.{explains?}
+use Rattle.settling.specs.Definition.{Explains}
 use Rattle.settling.specs.Locator.{X, lead_is, root-power}
 
 -- ---- one change
@@ -78,22 +79,19 @@ unfoldable pub same? : (m : ℕ) (f g : Series) → Dec ((j : ℕ) → j < m →
 same? m f g = all? m (λ j. f j ≟ g j)
 
 module _ (t n : ℕ) (s e : Series) where
-  pub test-long : t < weight n e → false ≡ holds (explains? 1 t n s e)
-  test-long h = sym (holds_no (explains? 1 t n s e) (λ x. omega (arith, x.within)))
+  pub test-long : t < weight n e → ¬ Explains 1 t n s e
+  test-long h x = omega (arith, x.within)
 
-  pub test_short : (m : ℕ) (f : Series) → m ≡ 2 * t → weight n e ≤ t → f ≡ cut m (syndrome 1 n e)
-      → holds (same? m f s) ≡ holds (explains? 1 t n s e)
-  test_short m f is h q = go (same? m f s)
-    where
-      at : (j : ℕ) → j < m → f j ≡ syndrome 1 n e j
-      at j b = ap (λ (g : Series). g j) q ∙ cut_low m (syndrome 1 n e) j b
+  module _ (m : ℕ) (f : Series) (is : m ≡ 2 * t) (q : f ≡ cut m (syndrome 1 n e)) where
+    at : (j : ℕ) → j < m → f j ≡ syndrome 1 n e j
+    at j b = ap (λ (g : Series). g j) q ∙ cut_low m (syndrome 1 n e) j b
 
-      go : (d : Dec ((j : ℕ) → j < m → f j ≡ s j)) → holds d ≡ holds (explains? 1 t n s e)
-      go (yes a) =
-          holds_yes (yes a) a
-          ∙ sym (holds_yes (explains? 1 t n s e) (record {
-            within = h;
-            syndromes = λ j b. sym (at j (omega arith)) ∙ a j (omega arith);
-          }))
-      go (no a) = holds_no (no a) a
-          ∙ sym (holds_no (explains? 1 t n s e) (λ x. a (λ j b. at j b ∙ x.syndromes j (omega arith))))
+    pub test-passed : weight n e ≤ t → holds (same? m f s) ≡ true → Explains 1 t n s e
+    test-passed h same = record {
+      within = h;
+      syndromes = λ j b. sym (at j (omega arith)) ∙ (decide_iff (same? m f s)).0 same j (omega arith);
+    }
+
+    pub test-failed : holds (same? m f s) ≡ false → ¬ Explains 1 t n s e
+    test-failed other x =
+        true≢false (sym (holds_yes (same? m f s) (λ j b. at j b ∙ x.syndromes j (omega arith))) ∙ other)

@@ -8,12 +8,12 @@
 -- Proved: a value at W (p + q) from the thirds at W p, W q being a third root of one (value-three); w·w = w + 1 for
 -- w = W 85, so that two products by w are enough (spread-zero, spread-one, spread-two). A loop that adds thirds goes on
 -- by third-more and ends by third-all, one that places values by placed-more and placed-all.
-use Rattle.std.specs.Prelude.{ℕ, zero, suc, ◌+◌, ◌*◌, ◌/◌, ◌%◌, ◌≤◌, ◌<◌, ◌≡◌, ◌≢◌, List, length, get_or, set}
-use Rattle.std.proofs.Common.{sym, ap, ap₂, ◌∙◌, arith, length-set}
+use Rattle.std.specs.Prelude.{ℕ, zero, suc, ◌+◌, ◌*◌, ◌%◌, ◌≤◌, ◌<◌, ◌≡◌, ◌≢◌, List, length, set}
+use Rattle.std.proofs.Common.{sym, ap, ap₂, ◌∙◌, add-one, arith, length-set}
 use Rattle.std.proofs.Math.Decide.{ℕ_discrete}
 use Rattle.field.specs.declared.Gf.{Gf}
 use Rattle.field.specs.Field.{F, 𝟎, 𝟏, α, ◌⊕◌, ◌⊙◌, ⊕_self, ⊕-equal, ⊕-group, zero-⊕, ⊙_comm, ⊙-one}
-use Rattle.field.specs.Field.{one-⊙, ⊙-ring, of, val, val_of, pow, pow-zero, pow-one, pow-suc}
+use Rattle.field.specs.Field.{one-⊙, ⊙-ring, val, pow, pow-zero, pow-one, pow-suc}
 use Rattle.field.proofs.Field.{⊙-factor}
 use Rattle.field.specs.Field.{pow-add, pow_mul, one-pow}
 use Rattle.field.proofs.Field.{power_apart}
@@ -22,8 +22,7 @@ use Rattle.series.specs.Series.{Series}
 use Rattle.series.specs.Shift.{cut, cut_low, cut_unique}
 use Rattle.series.specs.Degree.{below}
 use Rattle.series.specs.Value.{value, value_cong}
-use Rattle.series.specs.Array.{values, below-values, read_at, read-set-same, read-set-other}
-use Rattle.kernel.specs.ProductRow.{ProductRow, factor, row_at}
+use Rattle.series.specs.Array.{values, below-values, read-set-same, read-set-other}
 use Rattle.settling.specs.Locator.{W, W-is}
 use Rattle.settle.specs.PositionsTerm.{W-zero, W-add, terms, terms-at, terms-add, value-terms}
 
@@ -40,15 +39,12 @@ third-suc : (a m : ℕ) (f : Series) → third a (suc m) f ≡ third a m f ⊕ f
 unfolding third
 third-suc a m f = sum-suc m _
 
-pub third-more : (a i j : ℕ) (f : Series) → i % 3 ≡ 0 → j ≡ i + a → third a ((i + 3) / 3) f ≡ third a (i / 3) f ⊕ f j
-third-more a i j f h is =
-    let e : (i + 3) / 3 ≡ suc (i / 3) = omega arith in
-    let d : 3 * (i / 3) + a ≡ j = omega arith in
-    ap (λ m. third a m f) e ∙ third-suc a (i / 3) f ∙ ap (λ n. third a (i / 3) f ⊕ f n) d
+pub third-more : (a m j : ℕ) (f : Series) → j ≡ 3 * m + a → third a (m + 1) f ≡ third a m f ⊕ f j
+third-more a m j f is = rw (add-one, is) (third-suc a m f)
 
-pub third-all : (a k i : ℕ) (f : Series) → below k f → k ≤ i → i % 3 ≡ 0 → i ≤ 27 → third a 9 f ≡ third a (i / 3) f
+pub third-all : (a k m : ℕ) (f : Series) → below k f → k ≤ 3 * m → m ≤ 9 → third a 9 f ≡ third a m f
 unfolding third
-third-all a k i f b h m l = sum_more (i / 3) 9 _ (omega arith) (λ j g _. b (3 * j + a) (omega arith))
+third-all a k m f b h l = sum_more m 9 _ l (λ j g _. b (3 * j + a) (omega arith))
 
 thirds : (m : ℕ) (f : Series) → sum (3 * m) f ≡ third 0 m f ⊕ third 1 m f ⊕ third 2 m f
 thirds zero f = sum-none f ∙ sym (rw (third-none, third-none, third-none, zero-⊕) (zero-⊕ 𝟎))
@@ -121,11 +117,6 @@ square = ⊕-equal _ _ (⊙-factor (w ⊕ 𝟏) _ apart
 
     product : (w ⊕ 𝟏) ⊙ (w ⊙ w ⊕ (w ⊕ 𝟏)) ≡ w ⊙ (w ⊙ w) ⊕ 𝟏
     product = simp ⊙-ring
-
--- a product by a lookup
-pub product_at : (l : List ℕ) (w : F) (x : Gf) (i : ℕ) → ProductRow l → factor l ≡ w → i ≡ x.0 → i < 256
-    → of (get_or l i 0) ≡ w ⊙ val x
-product_at l w x i p e is h = sym (read_at of 0 l i) ∙ row_at l i p h ∙ ap₂ ◌⊙◌ e (ap of is ∙ sym (val_of x))
 
 module _ (a b c : F) where
   pub spread-zero : a ⊕ b ⊕ c ≡ three (W 0) a b c

@@ -14,13 +14,6 @@ use field::{Exponent, Gf};
 use polynomial::COEFFICIENTS;
 use profile::POSITIONS;
 
-// Whether the walk met as many roots as it should; what was put forward at the positions that it went through.
-#[derive(Clone, Copy)]
-pub struct Located {
-    pub whole: bool,
-    pub pattern: [Gf; POSITIONS],
-}
-
 // Forney's formula at position p: one row of products serves both values. Every root comes here, so the two products
 // read no table.
 fn forney(p: usize, denominator: &[u8], numerator: &[u8]) -> Gf
@@ -37,80 +30,66 @@ fn forney(p: usize, denominator: &[u8], numerator: &[u8]) -> Gf
     kernel::product(scaled, bottom.inverse())
 }
 
-// Walks the positions from 0 on, until no root is missing, or the positions that are left are fewer than the roots that
-// are.
-fn walk(locator: [Gf; COEFFICIENTS], numerator: &[u8], roots: usize, n: usize) -> Located
+// Walks the positions from 0 on, until no root is missing.
+fn walk(
+    locator: [Gf; COEFFICIENTS],
+    numerator: &[u8],
+    roots: usize,
+    n: usize,
+) -> Option<[Gf; POSITIONS]>
     requires { (roots ≤ 24) × (n ≤ 255) × (length numerator.now ≤ roots + 1) }
-    ensures { Walked n (roots + 1) roots (poly locator) (bytes numerator.now)
-        result.whole result.pattern }
+    ensures { Walked n (roots + 1) roots (poly locator) (bytes numerator.now) result }
 {
     let k = roots + 1;
     let values = crate::positions::at_positions(locator, k);
     let odds = polynomial::coefficients::odd(locator, k);
     let mut pattern = [Gf::ZERO; POSITIONS];
-    let mut missing: usize = roots;
-    let mut p: usize = 0;
-    while 0 < missing {
-        if n - p < missing {
-            return Located {
-                whole: false,
-                pattern: pattern,
-            };
+    let mut missing = roots;
+    for p in 0..n {
+        if missing == 0 {
+            return Some(pattern);
         }
-        let v = values[p];
-        if v.is_zero() {
+        if values[p].is_zero() {
             pattern[p] = forney(p, &odds[..k], numerator);
-            missing = missing - 1;
+            missing -= 1;
         }
-        p = p + 1;
     }
-    Located {
-        whole: true,
-        pattern: pattern,
-    }
+    if missing == 0 { Some(pattern) } else { None }
 }
 
 // A locator of two terms has its one root at W p if its second coefficient is α^p times its first one: logarithms give
 // p. There the odd part is W p times the second coefficient, so that the change is the numerator's value divided by
 // that.
-fn locate_one(locator: [Gf; COEFFICIENTS], numerator: &[u8], n: usize) -> Located
+fn locate_one(locator: [Gf; COEFFICIENTS], numerator: &[u8], n: usize) -> Option<[Gf; POSITIONS]>
     requires { (n ≤ 255) × (length numerator.now ≤ 2) × (poly locator 0 ≢ 𝟎) × (poly locator 1 ≢ 𝟎) }
-    ensures { Walked n 2 1 (poly locator) (bytes numerator.now) result.whole result.pattern }
+    ensures { Walked n 2 1 (poly locator) (bytes numerator.now) result }
 {
     let a = locator[0];
     let b = locator[1];
     let i = a.log();
     let j = b.log();
     let p = (j.0 + (255 - i.0)) % 255;
-    let mut pattern = [Gf::ZERO; POSITIONS];
     if n <= p {
-        return Located {
-            whole: false,
-            pattern: pattern,
-        };
+        return None;
     }
-    let top = kernel::short_value(Exponent(255 - p).power(), numerator);
+    let mut pattern = [Gf::ZERO; POSITIONS];
+    let top = kernel::value(&Exponent(255 - p).power(), numerator);
     pattern[p] = kernel::product(top, b.inverse());
-    Located {
-        whole: true,
-        pattern: pattern,
-    }
+    Some(pattern)
 }
 
 // The pattern that a locator puts forward: one root is found at once, more by the walk.
-pub fn locate(locator: [Gf; COEFFICIENTS], numerator: &[u8], roots: usize, n: usize) -> Located
+pub fn locate(
+    locator: [Gf; COEFFICIENTS],
+    numerator: &[u8],
+    roots: usize,
+    n: usize,
+) -> Option<[Gf; POSITIONS]>
     requires { (roots ≤ 24) × (n ≤ 255) × (length numerator.now ≤ roots + 1) }
-    ensures { Walked n (roots + 1) roots (poly locator) (bytes numerator.now)
-        result.whole result.pattern }
+    ensures { Walked n (roots + 1) roots (poly locator) (bytes numerator.now) result }
 {
-    if roots == 1 {
-        let a = locator[0];
-        let b = locator[1];
-        if !a.is_zero() {
-            if !b.is_zero() {
-                return locate_one(locator, numerator, n);
-            }
-        }
+    if roots == 1 && !locator[0].is_zero() && !locator[1].is_zero() {
+        return locate_one(locator, numerator, n);
     }
     walk(locator, numerator, roots, n)
 }

@@ -7,15 +7,16 @@ mod candidate;
 mod check;
 mod numerator;
 mod positions;
+mod powers;
 pub mod untwist;
 
-ghost use Rattle.std.specs.Prelude.{◌*◌, ◌≤◌, ◌≡◌};
+ghost use Rattle.std.specs.Prelude.{◌*◌, ◌≤◌, ◌≡◌, IfSome};
 ghost use Rattle.polynomial.specs.Polynomial.{poly, row as Row};
 ghost use Rattle.key_equation.specs.Run.{measure};
 ghost use Rattle.key_equation.specs.Shortest.{length as Length};
 ghost use Rattle.settling.specs.Definition.{settle as Settle};
 ghost use Rattle.settling.specs.Candidate.{Multiple};
-ghost use Rattle.settle.specs.Answer.{answer, Nothing, Sound};
+ghost use Rattle.settle.specs.Answer.{answer, Sound};
 
 use field::Gf;
 use polynomial::{COEFFICIENTS, SYNDROMES};
@@ -24,24 +25,11 @@ use profile::POSITIONS;
 // The terms of a locator of 24 changes.
 const TERMS: usize = 25;
 
-// The pattern that settles a subword, and how many symbols it changes; or that none was found, and then the pattern is
-// zero.
+// The pattern that settles a subword, and how many symbols it changes.
 #[derive(Clone, Copy)]
 pub struct Settled {
-    pub found: bool,
     pub count: u8,
     pub pattern: [Gf; POSITIONS],
-}
-
-// The answer that nothing was found.
-fn nothing() -> Settled
-    ensures { Nothing result }
-{
-    Settled {
-        found: false,
-        count: 0,
-        pattern: [Gf::ZERO; POSITIONS],
-    }
 }
 
 // Settles a subword as `settle` does, with the first root α.
@@ -51,30 +39,22 @@ fn settle_at_alpha(
     row: [Gf; SYNDROMES],
     n: usize,
     t: usize,
-) -> Settled
+) -> Option<Settled>
     requires { (n ≤ 255) × (t ≤ 24) }
-    ensures sound { Sound 1 t n (Row row) result }
+    ensures sound { IfSome result (Sound 1 t n (Row row)) }
     ensures settled { Multiple (poly locator) (measure (Row row) (2 * t)).Λ
         → length ≡ Length (Row row) (2 * t) → answer n result ≡ Settle 1 t n (Row row) }
 {
     if t < length {
-        return nothing();
+        return None;
     }
     let numerator = crate::numerator::numerator(locator, row, length);
-    let located = crate::candidate::locate(locator, &numerator[..length], length, n);
-    if !located.whole {
-        return nothing();
-    }
-    let pattern = located.pattern;
-    let tested = check::test(pattern, row, n, t);
-    if !tested.explains {
-        return nothing();
-    }
-    Settled {
-        found: true,
-        count: tested.count as u8,
-        pattern: pattern,
-    }
+    let pattern = crate::candidate::locate(locator, &numerator[..length], length, n)?;
+    let count = check::test(pattern, row, n, t)?;
+    Some(Settled {
+        count: count as u8,
+        pattern,
+    })
 }
 
 // The first root is α^first. The subword has n symbols; of its syndromes the first 2t count. Whatever the locator and
@@ -88,23 +68,18 @@ pub fn settle(
     row: [Gf; SYNDROMES],
     n: usize,
     t: usize,
-) -> Settled
+) -> Option<Settled>
     requires { (n ≤ 255) × (t ≤ 24) }
-    ensures sound { Sound first t n (Row row) result }
+    ensures sound { IfSome result (Sound first t n (Row row)) }
     ensures settled { Multiple (poly locator) (measure (Row row) (2 * t)).Λ
         → length ≡ Length (Row row) (2 * t) → answer n result ≡ Settle first t n (Row row) }
 {
-    let s = settle_at_alpha(locator, length, row, n, t);
+    let settled = settle_at_alpha(locator, length, row, n, t)?;
     if first == 1 {
-        return s;
+        return Some(settled);
     }
-    if !s.found {
-        return s;
-    }
-    let pattern = s.pattern;
-    Settled {
-        found: s.found,
-        count: s.count,
-        pattern: crate::untwist::untwist(first, pattern, n),
-    }
+    Some(Settled {
+        pattern: crate::untwist::untwist(first, settled.pattern, n),
+        ..settled
+    })
 }

@@ -18,12 +18,8 @@ fn add_term(c: Gf, a: usize, row: [Gf; SYNDROMES], to: &mut [u8])
     requires { a + 32 ≤ length to.old }
     ensures { bytes to.new ≡ bytes to.old ⊞ zpow a ⊠ cut 32 (K (val c) ⊠ Row row) }
 {
-    let mut j: usize = 0;
-    while j < LANES {
-        let g = row[j];
-        let q = a + j;
-        to[q] = to[q] ^ kernel::multiply(c.0, g.0);
-        j = j + 1;
+    for j in 0..LANES {
+        to[a + j] ^= kernel::multiply(c.0, row[j].0);
     }
 }
 
@@ -33,7 +29,7 @@ fn first_bytes(from: &[u8], m: usize) -> [u8; TERMS]
     ensures { bytes result ≡ cut m (bytes from.now) }
 {
     let mut out = [0u8; TERMS];
-    kernel::copy(&from[..m], &mut out[..m]);
+    out[..m].copy_from_slice(&from[..m]);
     out
 }
 
@@ -43,10 +39,8 @@ pub fn numerator(locator: [Gf; COEFFICIENTS], row: [Gf; SYNDROMES], m: usize) ->
     ensures { bytes result ≡ cut m (poly locator ⊠ Row row) }
 {
     let mut sum = [0u8; TERMS + LANES];
-    let mut i: usize = 0;
-    while i < m {
+    for i in 0..m {
         add_term(locator[i], i, row, &mut sum);
-        i = i + 1;
     }
     first_bytes(&sum, m)
 }

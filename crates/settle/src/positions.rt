@@ -3,20 +3,21 @@
 // once with no product. The 85 positions from p = 0 on do for all 255, since W 85 has order three.
 ghost use Rattle.std.specs.Prelude.{◌≤◌, ◌<◌, ◌≡◌};
 ghost use Rattle.std.proofs.Math.Logic.{ite};
-ghost use Rattle.field.specs.Field.{𝟎, ◌⊙◌, ◌≟◌, val, power_table};
+ghost use Rattle.field.specs.Field.{𝟎, ◌⊙◌, ◌≟◌, val};
 ghost use Rattle.series.specs.Shift.{cut};
 ghost use Rattle.series.specs.Degree.{below};
 ghost use Rattle.series.specs.Value.{value};
 ghost use Rattle.series.specs.Array.{values};
 ghost use Rattle.polynomial.specs.Polynomial.{poly};
-ghost use Rattle.kernel.specs.ProductRow.{factor, ProductRow};
+ghost use Rattle.kernel.specs.ProductRow.{factor};
 ghost use Rattle.settling.specs.Locator.{W};
 ghost use Rattle.settle.specs.PositionsTerm.{terms};
 ghost use Rattle.settle.specs.PositionsExponent.{symbol, symbols, Steps};
 ghost use Rattle.settle.specs.PositionsThird.{third, three};
 
+use crate::powers::Powers;
 use field::{Exponent, Gf};
-use kernel::index;
+use kernel::{Multiplier, Row, index};
 use polynomial::COEFFICIENTS;
 use profile::POSITIONS;
 
@@ -48,18 +49,17 @@ fn exponent(g: Gf) -> Lane
     ensures { symbol result.0 ≡ val g }
 {
     if g.is_zero() {
-        return NONE;
+        NONE
+    } else {
+        Lane(g.log().0 as u8)
     }
-    let e = g.log();
-    Lane(e.0 as u8)
 }
 
 // The symbol of an exponent: a lookup in the table of powers.
-fn power_of(power: &[u8; 256], e: Lane) -> Gf
-    requires { power.now ≡ power_table }
+fn power_of(power: &Powers, e: Lane) -> Gf
     ensures { val result ≡ symbol e.0 }
 {
-    Gf(power[index(e.0)])
+    Gf(power.0[index(e.0)])
 }
 
 // The terms of the first k coefficients at position 0.
@@ -68,10 +68,8 @@ fn exponents(f: [Gf; COEFFICIENTS], k: usize) -> [Lane; LANES]
     ensures { symbols result ≡ cut k (poly f) }
 {
     let mut out = [NONE; LANES];
-    let mut i: usize = 0;
-    while i < k {
+    for i in 0..k {
         out[i] = exponent(f[i]);
-        i = i + 1;
     }
     out
 }
@@ -81,10 +79,7 @@ fn step(e: Lane, i: usize) -> Loss
     requires { i < 256 }
     ensures { result.0 ≡ ite (symbol e.0 ≟ 𝟎) 0 i }
 {
-    if e.0 == 255 {
-        return Loss(0);
-    }
-    Loss(i as u8)
+    if e.0 == 255 { Loss(0) } else { Loss(i as u8) }
 }
 
 // What each of k terms loses from a position to the next, and nothing after them. A loop over all 32 would be unrolled,
@@ -94,10 +89,8 @@ fn steps(e: [Lane; LANES], k: usize) -> [Loss; LANES]
     ensures { Steps (symbols e) result }
 {
     let mut out = [Loss(0); LANES];
-    let mut i: usize = 0;
-    while i < k {
+    for i in 0..k {
         out[i] = step(e[i], i);
-        i = i + 1;
     }
     out
 }
@@ -108,9 +101,10 @@ fn back(e: Lane, s: Loss) -> Lane
     ensures { symbol result.0 ≡ symbol e.0 ⊙ W s.0 }
 {
     if e.0 < s.0 {
-        return Lane(255 - (s.0 - e.0));
+        Lane(255 - (s.0 - e.0))
+    } else {
+        Lane(e.0 - s.0)
     }
-    Lane(e.0 - s.0)
 }
 
 // The terms at the next position: no table and no branch, so the compiler takes sixteen of them at a time.
@@ -119,37 +113,33 @@ fn next(e: [Lane; LANES], step: [Loss; LANES]) -> [Lane; LANES]
     ensures { symbols result ≡ terms (W 1) (symbols e) }
 {
     let mut out = [NONE; LANES];
-    let mut i: usize = 0;
-    while i < LANES {
+    for i in 0..LANES {
         out[i] = back(e[i], step[i]);
-        i = i + 1;
     }
     out
 }
 
 // The sums of every third of k terms.
-fn sums(power: &[u8; 256], e: [Lane; LANES], k: usize) -> Three
-    requires { (power.now ≡ power_table) × (k ≤ 25) × below k (symbols e) }
+fn sums(power: &Powers, e: [Lane; LANES], k: usize) -> Three
+    requires { (k ≤ 25) × below k (symbols e) }
     ensures { (val result.a ≡ third 0 9 (symbols e)) × (val result.b ≡ third 1 9 (symbols e)) ×
         (val result.c ≡ third 2 9 (symbols e)) }
 {
     let mut a = Gf::ZERO;
     let mut b = Gf::ZERO;
     let mut c = Gf::ZERO;
-    let mut i: usize = 0;
-    while i < k {
-        a = a.sum(power_of(power, e[i]));
-        b = b.sum(power_of(power, e[i + 1]));
-        c = c.sum(power_of(power, e[i + 2]));
-        i = i + 3;
+    for m in 0..k.div_ceil(3) {
+        a = a.sum(power_of(power, e[3 * m]));
+        b = b.sum(power_of(power, e[3 * m + 1]));
+        c = c.sum(power_of(power, e[3 * m + 2]));
     }
-    Three { a: a, b: b, c: c }
+    Three { a, b, c }
 }
 
 // The values at three positions from the sums at the first of them: with w = W 85, w·w is w + 1, so two products are
 // enough.
-fn spread(row: &[u8; 256], s: Three) -> Three
-    requires { ProductRow row.now × (factor row.now ≡ W 85) }
+fn spread(row: &Row, s: Three) -> Three
+    requires { factor row.now.products ≡ W 85 }
     ensures { (val result.a ≡ three (W 0) (val s.a) (val s.b) (val s.c)) ×
         (val result.b ≡ three (W 85) (val s.a) (val s.b) (val s.c)) ×
         (val result.c ≡ three (W 170) (val s.a) (val s.b) (val s.c)) }
@@ -157,8 +147,8 @@ fn spread(row: &[u8; 256], s: Three) -> Three
     let a = s.a;
     let b = s.b;
     let c = s.c;
-    let wb = row[index(b.0)];
-    let wc = row[index(c.0)];
+    let wb = row.times(b.0);
+    let wc = row.times(c.0);
     Three {
         a: Gf(a.0 ^ b.0 ^ c.0),
         b: Gf(a.0 ^ wb ^ wc ^ c.0),
@@ -171,23 +161,19 @@ pub fn at_positions(f: [Gf; COEFFICIENTS], k: usize) -> [Gf; POSITIONS]
     requires { k ≤ 25 }
     ensures { values result ≡ cut 255 (λ p. value k (poly f) (W p)) }
 {
-    let power = field::powers();
+    let power = Powers::new();
     let row = kernel::product_row(Exponent(170).power());
     let mut e = exponents(f, k);
     let step = steps(e, k);
     let mut out = [Gf::ZERO; POSITIONS];
-    let mut p: usize = 0;
-    while p < 85 {
+    for p in 0..85 {
         let v = spread(&row, sums(&power, e, k));
-        let a = v.a;
-        let b = v.b;
-        let c = v.c;
-        out[p] = a;
-        out[p + 85] = b;
-        out[p + 170] = c;
+        out[p] = v.a;
+        out[p + 85] = v.b;
+        out[p + 170] = v.c;
+        // Two steps: the proof of borrows does not cover a call's result that is laid straight into an array.
         let on = next(e, step);
         e = on;
-        p = p + 1;
     }
     out
 }

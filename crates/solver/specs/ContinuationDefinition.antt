@@ -1,7 +1,6 @@
 -- A solver at the end of a list of rounds.
 --
---   Ended f rounds s          s is a solver in the form f, at the end of the run over the rounds; its two other forms
---                             are at their start
+--   Ended f rounds s          s is a solver in the form f, at the end of the run over the rounds
 --   Next rounds round u v S   the rounds are syndromes 0 to u − 1 of S, the round after them u to v − 1; S is zero from
 --                             v on, and v is at most 48
 --   Advanced u v S s p        p is the solver s after the entry of a round at u and iterations u to v − 1, S being the
@@ -17,11 +16,10 @@ use Rattle.key_equation.specs.Run.{joined, events, after}
 use Rattle.key_equation.specs.Ends.{finish}
 use Rattle.solver.specs.declared.Form.{Form}
 use Rattle.solver.specs.declared.Solver.{Solver}
-use Rattle.solver.specs.Solver.{form_of, Is, Kept, Fresh, Idle, iterate_clipped, iterated, idle-fresh}
+use Rattle.solver.specs.Solver.{form_of, Is, iterate_clipped, iterated}
 
-pub record Ended (f : Form) (rounds : List (List F)) (s : Solver) : Type 0 where
-  pub is : Is f (length (joined rounds)) s (finish (form_of f) rounds).state
-  pub others : Idle f s
+abbrev pub Ended : Form → List (List F) → Solver → Type 0
+Ended f rounds s = Is f (length (joined rounds)) s (finish (form_of f) rounds).state
 
 pub record Next (rounds : List (List F)) (round : List F) (u v : ℕ) (S : Series) : Type 0 where
   pub from : joined rounds ≡ word u S
@@ -29,11 +27,11 @@ pub record Next (rounds : List (List F)) (round : List F) (u v : ℕ) (S : Serie
   pub past : below v S
   pub few : v ≤ 48
 
-pub record Advanced (u v : ℕ) (S : Series) (s p : Solver) : Type 0 where
-  pub is : (f : Form) (m : (form_of f).State) → Is f u s m
-      → Is f (u + (v - u)) p (iterated (iterate_clipped f S) u (v - u) ((form_of f).enter u S m))
-  pub others : Kept s.form s p
+abbrev pub Advanced : (u v : ℕ) → Series → (s p : Solver) → Type 0
+Advanced u v S s p =
+    (f : Form) (m : (form_of f).State) → Is f u s m
+    → Is f (u + (v - u)) p (iterated (iterate_clipped f S) u (v - u) ((form_of f).enter u S m))
 
-pub ended-start : (f : Form) (s : Solver) → s.form ≡ f → Fresh s → Ended f [] s
+pub ended-start : (f : Form) (s : Solver) → Is f 0 s (form_of f).start → Ended f [] s
 unfolding joined finish events after
-ended-start f s e h = record { is = (e, h f); others = idle-fresh f s h }
+ended-start f s h = h

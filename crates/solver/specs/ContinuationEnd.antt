@@ -52,10 +52,10 @@ module _ (rounds : List (List F)) where
           → Multiple l (measure S n).Λ
       ended-locator l is =
           let (a, a≢0, e) = Λ-end f in
-          (a, a≢0, is _ f _ ended.is ∙ e ∙ ap (λ m. K a ⊠ m.Λ) m-is)
+          (a, a≢0, is _ f _ ended ∙ e ∙ ap (λ m. K a ⊠ m.Λ) m-is)
 
       pub ended-length : (l : ℕ) → HasLength s l → l ≡ Shortest.length S n
-      ended-length l is = k_of-length r l _ _ (is r f _ ended.is ∙ k-end f) long
+      ended-length l is = k_of-length r l _ _ (is r f _ ended ∙ k-end f) long
         where
           r : ℕ
           r = length (joined rounds)
@@ -68,8 +68,8 @@ module _ (rounds : List (List F)) where
 pub ended-stands : (f : Form) (rounds : List (List F)) (s : Solver) → Ended f rounds s
     → Stands f rounds (length (events rounds)) s
 ended-stands f rounds s ended = (
-  ended.is.0,
+  ended.0,
   ap (λ n. state_of f n s) (end-iterations rounds (length (events rounds)) (omega arith))
-      ∙ ended.is.1
+      ∙ ended.1
       ∙ sym (ap (λ (p : At (form_of f)). p.state) (run_end (form_of f) rounds)),
 )

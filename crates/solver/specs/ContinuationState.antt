@@ -26,7 +26,7 @@ use Rattle.key_equation.specs.Ends.{finish, finish-is, joined-append}
 use Rattle.solver.specs.declared.Form.{Form}
 use Rattle.solver.specs.declared.Form.TheVariants.{Plain, Lookahead, Scaled}
 use Rattle.solver.specs.declared.Solver.{Solver}
-use Rattle.solver.specs.Solver.{form_of, state_of, Is, Idle, idle-kept, clip, iterate_clipped, iterated, clip-run}
+use Rattle.solver.specs.Solver.{form_of, state_of, Is, clip, iterate_clipped, iterated, clip-run}
 use Rattle.solver.specs.ContinuationDefinition.{Ended, Next, Advanced}
 
 -- ---- the state
@@ -104,10 +104,10 @@ module _ (f : Form) (rounds : List (List F)) (n : ℕ) (S : Series) (are : joine
       ∙ ap (λ k. state f k (entry (word n S))) (length-word n S)
 
   ended_reached : Ended f rounds s → Reached f n (entry (word n S)) s
-  ended_reached h = (h.is.0, ap (λ k. state_of f k s) (sym long) ∙ h.is.1 ∙ end)
+  ended_reached h = (h.0, ap (λ k. state_of f k s) (sym long) ∙ h.1 ∙ end)
 
-  reached-ended : Reached f n (entry (word n S)) s → Idle f s → Ended f rounds s
-  reached-ended h idle = record { is = (h.0, ap (λ k. state_of f k s) long ∙ h.1 ∙ sym end); others = idle }
+  reached-ended : Reached f n (entry (word n S)) s → Ended f rounds s
+  reached-ended h = (h.0, ap (λ k. state_of f k s) long ∙ h.1 ∙ sym end)
 
 entry_whole : (v : ℕ) (S : Series) → below v S → entry (word v S) ≡ S
 entry_whole v S past = word_cut v S ∙ below-cut_eq v S past
@@ -155,14 +155,13 @@ module _ (rounds : List (List F)) (round : List F) (u v : ℕ) (S : Series) (nex
     advanced-ended s p advanced ended =
         reached-ended f _ v S next.to p
         (subst (λ n. Reached f n (entry (word v S)) p) at (goes.0, goes.1 ∙ through ∙ whole))
-        (idle-kept f s p ended.is.0 advanced.others ended.others)
       where
         at : u + (v - u) ≡ v
         at = omega (arith, next-rising)
 
         goes : Is f (u + (v - u)) p
             (iterated (iterate_clipped f S) u (v - u) ((form_of f).enter u S (state f u (entry (word u S)))))
-        goes = advanced.is f _ (ended_reached f rounds u S next.from s ended)
+        goes = advanced f _ (ended_reached f rounds u S next.from s ended)
 
         whole : state f (u + (v - u)) S ≡ state f (u + (v - u)) (entry (word v S))
         whole = ap (state f (u + (v - u))) (sym (entry_whole v S next.past))

@@ -3,19 +3,15 @@
 --   stepped r S s B γ k Θ θS   s after iteration r, in 49 coefficients: what a swap and a hold share, with the new B,
 --                              γ, k, Θ and θ_S
 --
--- Proved: cut 49 passes through the sums Δ and Θ of the next iteration; the code's test for a swap is the definition's.
-use Rattle.std.specs.Prelude.{ℕ, ◌+◌, ◌≡◌, ℤ, get_or}
-use Rattle.std.proofs.Common.{sym, ap, ◌∙◌, arith}
-use Rattle.field.specs.Field.{F, ◌⊙◌, val}
+-- Proved: cut 49 passes through the sums Δ and Θ of the next iteration.
+use Rattle.std.specs.Prelude.{ℕ, ◌+◌, ◌≡◌, ℤ}
+use Rattle.std.proofs.Common.{sym, ◌∙◌}
+use Rattle.field.specs.Field.{F, ◌⊙◌}
 use Rattle.series.specs.Series.{Series, K, Z, ◌⊞◌, ◌⊠◌, tail, ⊞_assoc}
 use Rattle.series.specs.Shift.{cut}
 use Rattle.series.specs.Degree.{below, below-cut_eq, below-⊞, below-K-⊠, below-tail_weak}
-use Rattle.polynomial.specs.Polynomial.{poly-at, cut-add}
-use Rattle.key_equation.specs.Shared.{swaps}
-use Rattle.key_equation.specs.Length.{k_of}
+use Rattle.polynomial.specs.Polynomial.{cut-add}
 use Rattle.key_equation.specs.Lookahead.{State, next_Λ, next_Δ, next_δS}
-use Rattle.solver.specs.declared.lookahead.Lookahead.{Lookahead}
-use Rattle.solver.specs.LookaheadView.{lookahead}
 
 abbrev pub stepped : ℕ → Series → State → (B : Series) (γ : F) (k : ℤ) (Θ : Series) (θS : F) → State
 stepped r S s B γ k Θ θS = record {
@@ -48,12 +44,3 @@ module _ (s : State) (l : below 49 s.Λ) (d : below 49 s.Δ) where
 
   pub cut-swap-Θ : (a : F) → tail s.Δ ⊞ K a ⊠ s.Λ ≡ cut 49 (tail s.Δ ⊞ K a ⊠ s.Λ)
   cut-swap-Θ a = sym (below-cut_eq 49 _ (below-⊞ 49 _ _ (below-tail_weak 49 _ d) (below-K-⊠ 49 _ _ l)))
-
--- ---- the test for a swap
-
--- δ is the first entry of Δ
-pub swapping-is : (r : ℕ) (p : Lookahead)
-    → swaps ((lookahead r p).Δ 0) (lookahead r p).k
-    ≡ swaps (val (get_or p.delta 0 (record { 0 = 0 }))) (k_of r p.length)
-unfolding lookahead
-swapping-is r p = ap (λ d. swaps d (k_of r p.length)) (poly-at p.delta 0 (omega arith))

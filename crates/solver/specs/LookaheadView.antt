@@ -3,7 +3,6 @@
 --   lookahead r p      the state of the definitions that p stands for, after r iterations
 --   lookahead_with s Λ B Δ Θ   s with other polynomials
 --   clip_lookahead s   s with the first 49 coefficients of its polynomials: all that an array holds
---   iterate_lookahead  an iteration in 49 coefficients
 use Rattle.std.specs.Prelude.{ℕ}
 use Rattle.field.specs.Field.{val}
 use Rattle.series.specs.Series.{Series}
@@ -31,24 +30,7 @@ lookahead r p = record {
 }
 
 abbrev pub lookahead_with : Lookahead.State → (Λ B Δ Θ : Series) → Lookahead.State
-lookahead_with s Λ B Δ Θ = record {
-  Λ = Λ;
-  B = B;
-  γ = s.γ;
-  k = s.k;
-  Δ = Δ;
-  Θ = Θ;
-  γS = s.γS;
-  δS = s.δS;
-  θS = s.θS;
-  g1 = s.g1;
-  g2 = s.g2;
-  h1 = s.h1;
-  h2 = s.h2;
-}
+lookahead_with s Λ B Δ Θ = record s { Λ = Λ; B = B; Δ = Δ; Θ = Θ }
 
 unfoldable pub clip_lookahead : Lookahead.State → Lookahead.State
 clip_lookahead s = lookahead_with s (cut 49 s.Λ) (cut 49 s.B) (cut 49 s.Δ) (cut 49 s.Θ)
-
-abbrev pub iterate_lookahead : Series → ℕ → Lookahead.State → Lookahead.State
-iterate_lookahead S r m = clip_lookahead (Lookahead.iterate r S m)

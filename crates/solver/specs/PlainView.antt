@@ -2,10 +2,8 @@
 --
 --   plain r p      the state of the definitions that p stands for, after r iterations
 --   clip_plain s   s with the first 49 coefficients of its polynomials: all that an array holds
---   iterate_plain     an iteration in 49 coefficients
 use Rattle.std.specs.Prelude.{ℕ}
 use Rattle.field.specs.Field.{val}
-use Rattle.series.specs.Series.{Series}
 use Rattle.series.specs.Shift.{cut}
 use Rattle.polynomial.specs.Polynomial.{poly}
 use Rattle.key_equation.specs.Length.{k_of}
@@ -17,6 +15,3 @@ plain r p = record { Λ = poly p.locator; B = poly p.auxiliary; γ = val p.gamma
 
 unfoldable pub clip_plain : Plain.State → Plain.State
 clip_plain s = record { Λ = cut 49 s.Λ; B = cut 49 s.B; γ = s.γ; k = s.k }
-
-abbrev pub iterate_plain : Series → ℕ → Plain.State → Plain.State
-iterate_plain S r m = clip_plain (Plain.iterate r S m)

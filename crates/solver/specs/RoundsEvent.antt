@@ -22,7 +22,7 @@ use Rattle.polynomial.specs.Polynomial.{row}
 use Rattle.key_equation.specs.Run.{At, outset, note, happen, iteration, entering, run}
 use Rattle.solver.specs.declared.Form.{Form}
 use Rattle.solver.specs.declared.Solver.{Solver}
-use Rattle.solver.specs.Solver.{form_of, state_of, Is, Kept, Fresh, Idle, idle-fresh, idle-kept, clip, clip-run}
+use Rattle.solver.specs.Solver.{form_of, named, state_of, Is, clip, clip-run}
 use Rattle.solver.specs.declared.rounds.Progress.{Progress}
 use Rattle.solver.specs.declared.rounds.Walk.{Walk}
 use Rattle.solver.specs.Rounds.{cut_rounds, length_cut, Here, here-start, here-run}
@@ -55,23 +55,21 @@ module _ (form : Form) (s : List F) (ns : List ℕ) where
   here w = at_of form (take w.known s) w.progress
 
   pub record Arrived (n : ℕ) (w : Walk) : Type 0 where
-    pub in-form : w.progress.solver.form ≡ form
-    pub others : Idle form w.progress.solver
+    pub in-form : named w.progress.solver ≡ form
     pub at : Here (form_of form) s ns n (here w) w.known w.entered
     pub syndromes : row w.syndromes ≡ entry (take w.known s)
     pub long : length w.progress.swapped ≡ 48
 
   pub event-start : (table : List Gf) (solver : Solver) → row table ≡ entry (take 0 s)
-      → solver.form ≡ form → Fresh solver
+      → Is form 0 solver (form_of form).start
       → Arrived 0 (record {
         progress = record { solver = solver; iterations = 0; swapped = replicate 48 false };
         syndromes = table;
         known = 0;
         entered = 0;
       })
-  event-start table solver t e start = record {
-    in-form = e;
-    others = idle-fresh form solver start;
+  event-start table solver t start = record {
+    in-form = start.0;
     at = subst (λ (q : At (form_of form)). Here (form_of form) s ns 0 q 0 0) same (here-start (form_of form) s ns);
     syndromes = t;
     long = length-replicate 48 false;
@@ -84,7 +82,7 @@ module _ (form : Form) (s : List F) (ns : List ℕ) where
 
       same : outset (form_of form)
           ≡ at_of form (take 0 s) (record { solver = solver; iterations = 0; swapped = replicate 48 false })
-      same i = record { known = take 0 s; r = 0; state = sym (start form) i; swapped = λ j. sym (nowhere 48 j) i }
+      same i = record { known = take 0 s; r = 0; state = sym start.1 i; swapped = λ j. sym (nowhere 48 j) i }
 
   module _ (few : length s ≤ 48) (n : ℕ) (w : Walk) (t : Arrived n w) where
     abbrev p : Progress
@@ -98,7 +96,6 @@ module _ (form : Form) (s : List F) (ns : List ℕ) where
         → b ≡ (form_of f).swapping p.iterations (row w.syndromes) m)
         → ((f : Form) (m : (form_of f).State) → Is f p.iterations p.solver m
         → Is f (p.iterations + 1) next (clip f ((form_of f).iterate p.iterations (row w.syndromes) m)))
-        → Kept p.solver.form p.solver next
         → Arrived (n + 1) (record {
           progress = record {
             solver = next;
@@ -110,9 +107,8 @@ module _ (form : Form) (s : List F) (ns : List ℕ) where
           entered = w.entered;
         })
     unfolding note
-    event-iterate l b next swaps iterates kept = record {
+    event-iterate l b next swaps iterates = record {
       in-form = goes.0;
-      others = idle-kept form p.solver next t.in-form kept t.others;
       at = subst (λ (q : At (form_of form)). Here (form_of form) s ns (n + 1) q w.known w.entered) same now;
       syndromes = t.syndromes;
       long = length-set p.swapped r b ∙ t.long;
@@ -164,16 +160,14 @@ module _ (form : Form) (s : List F) (ns : List ℕ) where
         → more ≡ min (w.known + get_or ns w.entered 0) (length s) → row table ≡ entry (take more s)
         → ((f : Form) (m : (form_of f).State) → Is f p.iterations p.solver m
         → Is f p.iterations next ((form_of f).enter p.iterations (row table) m))
-        → Kept p.solver.form p.solver next
         → Arrived (n + 1) (record {
           progress = record { solver = next; iterations = p.iterations; swapped = p.swapped };
           syndromes = table;
           known = more;
           entered = w.entered + 1;
         })
-    event-enter l h more table next more-is table_is enters kept = record {
+    event-enter l h more table next more-is table_is enters = record {
       in-form = goes.0;
-      others = idle-kept form p.solver next t.in-form kept t.others;
       at = subst (λ (q : At (form_of form)). Here (form_of form) s ns (n + 1) q more (w.entered + 1)) same now;
       syndromes = table_is;
       long = t.long;
@@ -210,7 +204,6 @@ module _ (form : Form) (s : List F) (ns : List ℕ) where
     reached : (k : ℕ) → run (form_of form) (cut_rounds s ns) k ≡ here w → Ran form (cut_rounds s ns) k p
     reached k e =
         ran form (cut_rounds s ns) k p t.in-form (ap (λ (q : At (form_of form)). at_of form q.known p) e ∙ sym e)
-        t.others
 
     pub event_ran : (k : ℕ) → n ≡ k → Ran form (cut_rounds s ns) k p
     event_ran k e = reached k (rw (sym e) (here-run (form_of form) s ns n _ w.known w.entered t.at))

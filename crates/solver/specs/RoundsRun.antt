@@ -23,7 +23,7 @@ use Rattle.key_equation.specs.Claim.{PlainAgrees, LookaheadAgrees, ScaledAgrees}
 use Rattle.key_equation.specs.Agreement.{agreement}
 use Rattle.solver.specs.declared.Form.{Form}
 use Rattle.solver.specs.declared.Form.TheVariants.{Plain, Lookahead, Scaled}
-use Rattle.solver.specs.Solver.{form_of, state_of, Idle}
+use Rattle.solver.specs.Solver.{form_of, named, state_of}
 use Rattle.solver.specs.SolverLength.{Stands}
 use Rattle.solver.specs.declared.rounds.Progress.{Progress}
 use Rattle.solver.specs.Rounds.{cut_rounds, cut-joined}
@@ -59,14 +59,12 @@ Claimed Scaled rounds k p =
     (Run.factors (entry (Run.joined rounds)) (Run.iterations rounds k))
     (Run.measure_swapped (entry (Run.joined rounds)) (Run.iterations rounds k)) p
 
--- What `run` promises: the run of the code is that of the definitions, and the agreement of FORMAT 8.15 holds of it;
--- the two forms that are not f are at their start.
+-- What `run` promises: the run of the code is that of the definitions, and the agreement of FORMAT 8.15 holds of it.
 pub record Ran (f : Form) (rounds : List (List F)) (k : ℕ) (p : Progress) : Type 0 where
-  pub form : p.solver.form ≡ f
+  pub form : named p.solver ≡ f
   pub iterations : p.iterations ≡ Run.iterations rounds k
   pub is : at_of f (Run.run (form_of f) rounds k).known p ≡ Run.run (form_of f) rounds k
   pub claim : Claimed f rounds k (at_of f (Run.run (form_of f) rounds k).known p)
-  pub others : Idle f p.solver
 
 -- ---- laws of what is lent
 
@@ -112,15 +110,13 @@ claimed Plain rounds k = (agreement rounds k).in_plain
 claimed Lookahead rounds k = (agreement rounds k).in_lookahead
 claimed Scaled rounds k = (agreement rounds k).in_scaled
 
-pub ran : (f : Form) (rounds : List (List F)) (k : ℕ) (p : Progress) → p.solver.form ≡ f
-    → at_of f (Run.run (form_of f) rounds k).known p ≡ Run.run (form_of f) rounds k → Idle f p.solver
-    → Ran f rounds k p
-ran f rounds k p e is idle = record {
+pub ran : (f : Form) (rounds : List (List F)) (k : ℕ) (p : Progress) → named p.solver ≡ f
+    → at_of f (Run.run (form_of f) rounds k).known p ≡ Run.run (form_of f) rounds k → Ran f rounds k p
+ran f rounds k p e is = record {
   form = e;
   iterations = ap (λ (q : Run.At (form_of f)). q.r) is ∙ run-r (form_of f) rounds k;
   is = is;
   claim = subst (Claimed f rounds k) (sym is) (claimed f rounds k);
-  others = idle;
 }
 
 pub ran-stands : (f : Form) (rounds : List (List F)) (k : ℕ) (p : Progress) → Ran f rounds k p

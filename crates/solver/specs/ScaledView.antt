@@ -3,7 +3,6 @@
 --   scaled r p                the state of the definitions that p stands for, after r iterations
 --   scaled_with s Λ B Δ Θ     s with other polynomials
 --   clip_scaled s             s with the first 49 coefficients of its polynomials: all that an array holds
---   iterate_scaled            an iteration in 49 coefficients
 --   ProductsOf s a b c e     a, b, c and e are the products of an iteration of s, clipped: ρ_S Λ, ξ_S zB, ρ
 --                             Δ/z and ξ Θ
 --   stepped r S a b c e y t   the state for iteration r, from the products of the one before: B becomes y, and Θ
@@ -14,7 +13,7 @@ use Rattle.series.specs.Series.{Series, K, Z, ◌⊞◌, ◌⊠◌, tail}
 use Rattle.series.specs.Shift.{cut}
 use Rattle.polynomial.specs.Polynomial.{poly}
 use Rattle.key_equation.specs.Length.{k_of}
-use Rattle.key_equation.specs.Scaled.{State, holding, unless, iterate}
+use Rattle.key_equation.specs.Scaled.{State, holding, unless}
 use Rattle.solver.specs.declared.scaled.Scaled.{Scaled}
 
 unfoldable pub scaled : ℕ → Scaled → State
@@ -33,25 +32,10 @@ scaled r p = record {
 }
 
 abbrev pub scaled_with : State → (Λ B Δ Θ : Series) → State
-scaled_with s Λ B Δ Θ = record {
-  Λ = Λ;
-  B = B;
-  γ' = s.γ';
-  k = s.k;
-  Δ = Δ;
-  Θ = Θ;
-  g = s.g;
-  ρ = s.ρ;
-  ξ = s.ξ;
-  ρS = s.ρS;
-  ξS = s.ξS;
-}
+scaled_with s Λ B Δ Θ = record s { Λ = Λ; B = B; Δ = Δ; Θ = Θ }
 
 unfoldable pub clip_scaled : State → State
 clip_scaled s = scaled_with s (cut 49 s.Λ) (cut 49 s.B) (cut 49 s.Δ) (cut 49 s.Θ)
-
-abbrev pub iterate_scaled : Series → ℕ → State → State
-iterate_scaled S r m = clip_scaled (iterate r S m)
 
 pub record ProductsOf (s : State) (a b c e : Series) : Type 0 where
   pub a_is : a ≡ cut 49 (K s.ρS ⊠ s.Λ)

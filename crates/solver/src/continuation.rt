@@ -16,21 +16,16 @@ use polynomial::{COEFFICIENTS, SYNDROMES};
 pub fn advance(s: Solver, from: u8, to: u8, row: [Gf; SYNDROMES]) -> Solver
     ensures { Advanced from to (Row row) s result }
 {
-    let entered = s.enter(from, row);
-    entered.run(from, to, row)
+    s.enter(from, row).run(from, to, row)
 }
 
 // Λ in the form that the solver has.
 pub fn locator(s: Solver) -> [Gf; COEFFICIENTS]
     ensures { (r : ℕ) (f : Form) (m : (form_of f).State) → Is f r s m → poly result ≡ Λ_in f m }
 {
-    let form = s.form;
-    let p = s.plain;
-    let l = s.lookahead;
-    let c = s.scaled;
-    match form {
-        Form::Plain => p.locator,
-        Form::Lookahead => l.locator,
-        Form::Scaled => c.locator,
+    match s {
+        Solver::Plain(p) => p.locator,
+        Solver::Lookahead(p) => p.locator,
+        Solver::Scaled(p) => p.locator,
     }
 }

@@ -1,18 +1,19 @@
 // The lookahead form of the key-equation solver, FORMAT 8.6 to 8.9: Algorithm 2 of the nested-solver paper. Scalars are
 // held for the next iteration.
-ghost use Rattle.std.specs.Prelude.{◌+◌, ◌-◌, ◌≡◌, true};
+ghost use Rattle.std.specs.Prelude.{◌+◌, ◌≡◌, true};
 ghost use Rattle.field.specs.Field.{val, ◌⊕◌, ◌⊙◌};
 ghost use Rattle.series.specs.Series.{K, ◌⊞◌, ◌⊠◌};
 ghost use Rattle.series.specs.Shift.{cut};
 ghost use Rattle.polynomial.specs.Polynomial.{poly, row};
 ghost use Rattle.key_equation.specs.Length.{k_of};
-ghost use Rattle.key_equation.specs.Lookahead.{start as Start, enter as Enter, swap as Swap, hold as Hold};
-ghost use Rattle.key_equation.specs.Lookahead.{iterate as Iterate};
+ghost use Rattle.key_equation.specs.Lookahead.{swap as Swap, hold as Hold};
 ghost use Rattle.key_equation.specs.Lookahead.{swapping, next_Λ, next_Δ, next_δS};
-ghost use Rattle.solver.specs.SwapIterations.{iterated};
-ghost use Rattle.solver.specs.LookaheadView.{lookahead, clip_lookahead, iterate_lookahead};
+ghost use Rattle.solver.specs.declared.Form.TheVariants as Form;
+ghost use Rattle.solver.specs.LookaheadView.{lookahead, clip_lookahead};
 ghost use Rattle.solver.specs.LookaheadStep.{stepped};
 
+use crate::state::State;
+use crate::swap::{next_length, swaps};
 use field::Gf;
 use polynomial::syndromes::coefficient;
 use polynomial::{COEFFICIENTS, SYNDROMES, product};
@@ -42,24 +43,109 @@ pub struct Lookahead {
 fn two_products(a: Gf, b: Gf, c: Gf, d: Gf) -> Gf
     ensures { val result ≡ val a ⊙ val b ⊕ val c ⊙ val d }
 {
-    let p = product(a, b);
-    let q = product(c, d);
-    p.sum(q)
+    product(a, b).sum(product(c, d))
 }
 
 // The polynomial f + a g.
 fn add_multiple(f: [Gf; COEFFICIENTS], a: Gf, g: [Gf; COEFFICIENTS]) -> [Gf; COEFFICIENTS]
     ensures { poly result ≡ poly f ⊞ K (val a) ⊠ poly g }
 {
-    let h = polynomial::scale(a, g);
-    polynomial::sum(f, h)
+    polynomial::sum(f, polynomial::scale(a, g))
 }
 
 impl Lookahead {
-    // The state before the first round.
-    pub fn start() -> Lookahead
-        ensures { lookahead 0 result ≡ Start }
+    // The next Λ. Lines 1 to 3, which make it and the next Δ and δ_S, do not look at k.
+    fn next_locator(self) -> [Gf; COEFFICIENTS]
+        ensures { poly result ≡ cut 49 (next_Λ (lookahead 0 self)) }
     {
+        let zb = polynomial::shift::times_z(self.auxiliary);
+        polynomial::combine(self.gamma, self.locator, self.delta[0], zb)
+    }
+
+    // The next Δ.
+    fn next_delta(self) -> [Gf; COEFFICIENTS]
+        ensures { poly result ≡ cut 49 (next_Δ (lookahead 0 self)) }
+    {
+        let over = polynomial::shift::over_z(self.delta);
+        let zb = polynomial::shift::times_z(self.auxiliary);
+        let left = polynomial::combine(self.gamma, over, self.gamma_s, self.locator);
+        let right = polynomial::combine(self.delta[0], self.theta, self.delta_s, zb);
+        polynomial::sum(left, right)
+    }
+
+    // The next δ_S.
+    fn next_delta_s(self) -> Gf
+        ensures { val result ≡ next_δS (lookahead 0 self) }
+    {
+        let left = two_products(self.h1, self.delta[1], self.h2, self.locator[0]);
+        left.sum(product(self.delta[0], self.theta_s))
+    }
+
+    // Lines 1 to 3 and what a swap and a hold hold alike, with the next γ. B, L, Θ and θ_S are still to go on.
+    fn step(self, r: u8, s: [Gf; SYNDROMES], gamma: Gf) -> Lookahead
+        ensures { lookahead (r + 1) result ≡
+            stepped r (row s) (lookahead r self) (poly self.auxiliary) (val gamma) (k_of (r + 1) self.length)
+            (poly self.theta) (val self.theta_s) }
+    {
+        let at = r as usize;
+        let s2 = coefficient(s, at + 2);
+        let s3 = coefficient(s, at + 3);
+        let s4 = coefficient(s, at + 4);
+        Lookahead {
+            locator: self.next_locator(),
+            gamma,
+            delta: self.next_delta(),
+            gamma_s: product(gamma, s2),
+            delta_s: self.next_delta_s(),
+            g1: product(s2, s4),
+            g2: product(s3, s4),
+            h1: product(gamma, s3),
+            h2: product(gamma, self.g2),
+            ..self
+        }
+    }
+
+    // Lines 5 to 10: B becomes Λ and γ becomes δ.
+    fn swap(self, r: u8, s: [Gf; SYNDROMES]) -> Lookahead
+        requires { swapping r (row s) (lookahead r self) ≡ true }
+        ensures { lookahead (r + 1) result ≡ clip_lookahead (Swap r (row s) (lookahead r self)) }
+    {
+        let at = r as usize;
+        let s1 = coefficient(s, at + 1);
+        let s3 = coefficient(s, at + 3);
+        let over = polynomial::shift::over_z(self.delta);
+        Lookahead {
+            auxiliary: self.locator,
+            length: next_length(self.length, r),
+            theta: add_multiple(over, s1, self.locator),
+            theta_s: two_products(s3, self.delta[1], self.g1, self.locator[0]),
+            ..self.step(r, s, self.delta[0])
+        }
+    }
+
+    // Lines 11 to 16: B becomes zB.
+    fn hold(self, r: u8, s: [Gf; SYNDROMES]) -> Lookahead
+        ensures { lookahead (r + 1) result ≡ clip_lookahead (Hold r (row s) (lookahead r self)) }
+    {
+        let at = r as usize;
+        let s1 = coefficient(s, at + 1);
+        let s3 = coefficient(s, at + 3);
+        let zb = polynomial::shift::times_z(self.auxiliary);
+        Lookahead {
+            auxiliary: zb,
+            theta: add_multiple(self.theta, s1, zb),
+            theta_s: product(s3, self.theta[0]),
+            ..self.step(r, s, self.gamma)
+        }
+    }
+}
+
+impl State for Lookahead {
+    ghost form = { Form.Lookahead };
+
+    ghost view = { lookahead };
+
+    fn start() -> Lookahead {
         let one = polynomial::constant(Gf::ONE);
         let none = polynomial::zero();
         Lookahead {
@@ -79,166 +165,36 @@ impl Lookahead {
         }
     }
 
-    // Takes the state into a round that begins at u.
-    pub fn enter(self, u: u8, s: [Gf; SYNDROMES]) -> Lookahead
-        ensures { lookahead u result ≡ Enter u (row s) (lookahead u self) }
-    {
+    fn enter(self, u: u8, s: [Gf; SYNDROMES]) -> Lookahead {
         let at = u as usize;
         let s0 = coefficient(s, at);
         let s1 = coefficient(s, at + 1);
         let s2 = coefficient(s, at + 2);
         let s3 = coefficient(s, at + 3);
-        let f = self.locator;
-        let b = self.auxiliary;
-        let g = self.gamma;
-        let delta = self.delta;
-        let theta = self.theta;
-        let g_s = product(g, s1);
+        let g_s = product(self.gamma, s1);
         Lookahead {
-            locator: f,
-            auxiliary: b,
-            gamma: g,
-            length: self.length,
-            delta: add_multiple(delta, s0, f),
-            theta: add_multiple(theta, s0, b),
+            delta: add_multiple(self.delta, s0, self.locator),
+            theta: add_multiple(self.theta, s0, self.auxiliary),
             gamma_s: g_s,
-            delta_s: two_products(s1, delta[0], product(s1, s0), f[0]),
-            theta_s: two_products(s2, theta[0], product(s2, s0), b[0]),
+            delta_s: two_products(s1, self.delta[0], product(s1, s0), self.locator[0]),
+            theta_s: two_products(s2, self.theta[0], product(s2, s0), self.auxiliary[0]),
             g1: product(s1, s3),
             g2: product(s2, s3),
-            h1: product(g, s2),
+            h1: product(self.gamma, s2),
             h2: product(g_s, s2),
+            ..self
         }
     }
 
-    // The next Λ. Lines 1 to 3, which make it and the next Δ and δ_S, do not look at k.
-    fn next_locator(self) -> [Gf; COEFFICIENTS]
-        ensures { poly result ≡ cut 49 (next_Λ (lookahead 0 self)) }
-    {
-        let f = self.locator;
-        let b = self.auxiliary;
-        let delta = self.delta;
-        let zb = polynomial::shift::times_z(b);
-        polynomial::combine(self.gamma, f, delta[0], zb)
+    fn swaps(self, r: u8, _s: [Gf; SYNDROMES]) -> bool {
+        swaps(self.delta[0], self.length, r)
     }
 
-    // The next Δ.
-    fn next_delta(self) -> [Gf; COEFFICIENTS]
-        ensures { poly result ≡ cut 49 (next_Δ (lookahead 0 self)) }
-    {
-        let f = self.locator;
-        let b = self.auxiliary;
-        let delta = self.delta;
-        let theta = self.theta;
-        let over = polynomial::shift::over_z(delta);
-        let zb = polynomial::shift::times_z(b);
-        let left = polynomial::combine(self.gamma, over, self.gamma_s, f);
-        let right = polynomial::combine(delta[0], theta, self.delta_s, zb);
-        polynomial::sum(left, right)
-    }
-
-    // The next δ_S.
-    fn next_delta_s(self) -> Gf
-        ensures { val result ≡ next_δS (lookahead 0 self) }
-    {
-        let f = self.locator;
-        let delta = self.delta;
-        let left = two_products(self.h1, delta[1], self.h2, f[0]);
-        let right = product(delta[0], self.theta_s);
-        left.sum(right)
-    }
-
-    // Lines 1 to 3 and what a swap and a hold hold alike, whatever they make of B, γ, L, Θ and θ_S.
-    fn step(
-        self,
-        r: u8,
-        s: [Gf; SYNDROMES],
-        auxiliary: [Gf; COEFFICIENTS],
-        gamma: Gf,
-        length: u16,
-        theta: [Gf; COEFFICIENTS],
-        theta_s: Gf,
-    ) -> Lookahead
-        ensures { lookahead (r + 1) result ≡
-            stepped r (row s) (lookahead r self) (poly auxiliary) (val gamma) (k_of (r + 1) length)
-            (poly theta) (val theta_s) }
-    {
-        let at = r as usize;
-        let s2 = coefficient(s, at + 2);
-        let s3 = coefficient(s, at + 3);
-        let s4 = coefficient(s, at + 4);
-        Lookahead {
-            locator: self.next_locator(),
-            auxiliary: auxiliary,
-            gamma: gamma,
-            length: length,
-            delta: self.next_delta(),
-            theta: theta,
-            gamma_s: product(gamma, s2),
-            delta_s: self.next_delta_s(),
-            theta_s: theta_s,
-            g1: product(s2, s4),
-            g2: product(s3, s4),
-            h1: product(gamma, s3),
-            h2: product(gamma, self.g2),
+    fn iterate(self, r: u8, s: [Gf; SYNDROMES]) -> Lookahead {
+        if self.swaps(r, s) {
+            self.swap(r, s)
+        } else {
+            self.hold(r, s)
         }
-    }
-
-    // Lines 5 to 10: B becomes Λ and γ becomes δ.
-    fn swap(self, r: u8, s: [Gf; SYNDROMES]) -> Lookahead
-        requires { swapping r (row s) (lookahead r self) ≡ true }
-        ensures { lookahead (r + 1) result ≡ clip_lookahead (Swap r (row s) (lookahead r self)) }
-    {
-        let at = r as usize;
-        let s1 = coefficient(s, at + 1);
-        let s3 = coefficient(s, at + 3);
-        let f = self.locator;
-        let delta = self.delta;
-        let over = polynomial::shift::over_z(delta);
-        let theta = add_multiple(over, s1, f);
-        let theta_s = two_products(s3, delta[1], self.g1, f[0]);
-        let d = delta[0];
-        let length = crate::swap::next_length(self.length, r);
-        self.step(r, s, f, d, length, theta, theta_s)
-    }
-
-    // Lines 11 to 16: B becomes zB.
-    fn hold(self, r: u8, s: [Gf; SYNDROMES]) -> Lookahead
-        ensures { lookahead (r + 1) result ≡ clip_lookahead (Hold r (row s) (lookahead r self)) }
-    {
-        let at = r as usize;
-        let s1 = coefficient(s, at + 1);
-        let s3 = coefficient(s, at + 3);
-        let b = self.auxiliary;
-        let theta = self.theta;
-        let zb = polynomial::shift::times_z(b);
-        let next = add_multiple(theta, s1, zb);
-        let theta_s = product(s3, theta[0]);
-        self.step(r, s, zb, self.gamma, self.length, next, theta_s)
-    }
-
-    // Takes the state through iteration r. Polynomials have 49 coefficients: what would be above is lost.
-    pub fn iterate(self, r: u8, s: [Gf; SYNDROMES]) -> Lookahead
-        ensures { lookahead (r + 1) result ≡ clip_lookahead (Iterate r (row s) (lookahead r self)) }
-    {
-        let delta = self.delta;
-        if crate::swap::swaps(delta[0], self.length, r) {
-            return self.swap(r, s);
-        }
-        self.hold(r, s)
-    }
-
-    // Takes the state through iterations `from` to `to` - 1; there are none if `to` is not above `from`.
-    pub fn run(self, from: u8, to: u8, s: [Gf; SYNDROMES]) -> Lookahead
-        ensures { lookahead (from + (to - from)) result ≡
-            iterated (iterate_lookahead (row s)) from (to - from) (lookahead from self) }
-    {
-        let mut p = self;
-        let mut r = from;
-        while r < to {
-            p = p.iterate(r, s);
-            r = r + 1;
-        }
-        p
     }
 }

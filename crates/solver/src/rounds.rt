@@ -19,40 +19,6 @@ pub struct Progress {
     pub swapped: [bool; SYNDROMES],
 }
 
-// The lesser of two numbers.
-fn least(a: usize, b: usize) -> usize
-    ensures { result ≡ min a b }
-{
-    if a < b {
-        return a;
-    }
-    b
-}
-
-// A row of the first n syndromes, then zeros.
-fn first(bytes: &[u8], n: usize) -> [Gf; SYNDROMES]
-    requires { n ≤ length (syndromes_of bytes.now) }
-    ensures { row result ≡ entry (take n (syndromes_of bytes.now)) }
-{
-    let mut s = [Gf::ZERO; SYNDROMES];
-    let mut i: usize = 0;
-    while i < n {
-        s[i] = Gf(bytes[i]);
-        i = i + 1;
-    }
-    s
-}
-
-// How many syndromes there are when the next round has been entered: a round takes what is left.
-fn reach(known: usize, entered: usize, syndromes: &[u8], lengths: &[u8]) -> usize
-    requires { (known ≤ 48) × (entered < length lengths.now) }
-    ensures { result ≡
-        min (known + get_or lengths.now entered 0) (length (syndromes_of syndromes.now)) }
-{
-    let all = least(syndromes.len(), SYNDROMES);
-    least(known + lengths[entered] as usize, all)
-}
-
 // A run on its way: the syndromes so far and how many they are, and how many rounds have been entered.
 #[derive(Clone, Copy)]
 struct Walk {
@@ -62,58 +28,77 @@ struct Walk {
     entered: usize,
 }
 
-// Whether the run is over.
-fn over(w: Walk, lengths: &[u8]) -> bool
-    ensures { result ≡ leb w.known w.progress.iterations
-        && leb (length lengths.now) w.entered }
-{
-    let p = w.progress;
-    if (p.iterations as usize) < w.known {
-        return false;
-    }
-    lengths.len() <= w.entered
+// The rounds that are lent. `run` and `linear_complexity` keep the two slices as parameters: README names them.
+#[derive(Clone, Copy)]
+struct Rounds<'a> {
+    syndromes: &'a [u8],
+    lengths: &'a [u8],
 }
 
-// The next event: an iteration while there are syndromes for one, then the next round's entry.
-fn next(w: Walk, syndromes: &[u8], lengths: &[u8]) -> Walk
-    requires { Going (length lengths.now) w }
-    ensures { (form : Form) (n : ℕ)
-        → Arrived form (syndromes_of syndromes.now) lengths.now n w
-        → Arrived form (syndromes_of syndromes.now) lengths.now (n + 1) result }
-{
-    let p = w.progress;
-    let solver = p.solver;
-    let r = p.iterations;
-    let mut swapped = p.swapped;
-    let s = w.syndromes;
-    let known = w.known;
-    let entered = w.entered;
-    if (r as usize) < known {
-        swapped[r as usize] = solver.swaps(r, s);
-        let next = solver.iterate(r, s);
-        return Walk {
+impl Rounds<'_> {
+    // A row of the first n syndromes, then zeros.
+    fn first(self, n: usize) -> [Gf; SYNDROMES]
+        requires { n ≤ length (syndromes_of self.syndromes.now) }
+        ensures { row result ≡ entry (take n (syndromes_of self.entry.syndromes.now)) }
+    {
+        let mut s = [Gf::ZERO; SYNDROMES];
+        for i in 0..n {
+            s[i] = Gf(self.syndromes[i]);
+        }
+        s
+    }
+
+    // How many syndromes there are when the next round has been entered.
+    fn reach(self, w: Walk) -> usize
+        requires { (w.known ≤ 48) × (w.entered < length self.lengths.now) }
+        ensures { result ≡
+            min (w.known + get_or self.entry.lengths.now w.entered 0)
+            (length (syndromes_of self.entry.syndromes.now)) }
+    {
+        let all = self.syndromes.len().min(SYNDROMES);
+        all.min(w.known + self.lengths[w.entered] as usize)
+    }
+
+    // Whether the run is over.
+    fn over(self, w: Walk) -> bool
+        ensures { result ≡ leb w.known w.progress.iterations
+            && leb (length self.entry.lengths.now) w.entered }
+    {
+        w.known <= w.progress.iterations as usize && self.lengths.len() <= w.entered
+    }
+
+    // The next event: an iteration while there are syndromes for one, then the next round's entry.
+    fn next(self, w: Walk) -> Walk
+        requires { Going (length self.lengths.now) w }
+        ensures { (form : Form) (n : ℕ)
+            → Arrived form (syndromes_of self.entry.syndromes.now) self.entry.lengths.now n w
+            → Arrived form (syndromes_of self.entry.syndromes.now) self.entry.lengths.now (n + 1) result }
+    {
+        let p = w.progress;
+        let r = p.iterations;
+        if (r as usize) < w.known {
+            let mut swapped = p.swapped;
+            swapped[r as usize] = p.solver.swaps(r, w.syndromes);
+            return Walk {
+                progress: Progress {
+                    solver: p.solver.iterate(r, w.syndromes),
+                    iterations: r + 1,
+                    swapped,
+                },
+                ..w
+            };
+        }
+        let more = self.reach(w);
+        let s = self.first(more);
+        Walk {
             progress: Progress {
-                solver: next,
-                iterations: r + 1,
-                swapped: swapped,
+                solver: p.solver.enter(r, s),
+                ..p
             },
             syndromes: s,
-            known: known,
-            entered: entered,
-        };
-    }
-    let more = reach(known, entered, syndromes, lengths);
-    let s = first(syndromes, more);
-    let next = solver.enter(r, s);
-    Walk {
-        progress: Progress {
-            solver: next,
-            iterations: r,
-            swapped: swapped,
-        },
-        syndromes: s,
-        known: more,
-        entered: entered + 1,
+            known: more,
+            entered: w.entered + 1,
+        }
     }
 }
 
@@ -123,10 +108,10 @@ fn next(w: Walk, syndromes: &[u8], lengths: &[u8]) -> Walk
 pub fn run(form: Form, syndromes: &[u8], lengths: &[u8], events: usize) -> Progress
     ensures { Ran form (rounds_of syndromes.now lengths.now) events result }
 {
-    let solver = Solver::start(form);
+    let rounds = Rounds { syndromes, lengths };
     let mut w = Walk {
         progress: Progress {
-            solver: solver,
+            solver: Solver::start(form),
             iterations: 0,
             swapped: [false; SYNDROMES],
         },
@@ -134,13 +119,11 @@ pub fn run(form: Form, syndromes: &[u8], lengths: &[u8], events: usize) -> Progr
         known: 0,
         entered: 0,
     };
-    let mut n: usize = 0;
-    while n < events {
-        if over(w, lengths) {
+    for _ in 0..events {
+        if rounds.over(w) {
             return w.progress;
         }
-        w = next(w, syndromes, lengths);
-        n = n + 1;
+        w = rounds.next(w);
     }
     w.progress
 }
@@ -154,6 +137,5 @@ pub fn linear_complexity(form: Form, syndromes: &[u8], lengths: &[u8], events: u
         → Complexity (rounds_of syndromes.now lengths.now) result }
 {
     let end = run(form, syndromes, lengths, events);
-    let solver = end.solver;
-    solver.length()
+    end.solver.length()
 }

@@ -1,6 +1,5 @@
 // What the three forms of the key-equation solver share: the swap decision, the next length, and k from the length.
-ghost use Rattle.std.specs.Prelude.{◌+◌, ◌≤◌, ◌<◌, ◌^◌, ◌≡◌};
-ghost use Rattle.std.proofs.Math.IntN.{sub_ℕ};
+ghost use Rattle.std.specs.Prelude.{◌+◌, ◌≤◌, ◌≡◌};
 ghost use Rattle.field.specs.Field.{val};
 ghost use Rattle.key_equation.specs.Shared.{swaps as Swaps, k_swap};
 ghost use Rattle.key_equation.specs.Length.{k_of};
@@ -11,10 +10,7 @@ use field::Gf;
 pub fn swaps(d: Gf, length: u16, r: u8) -> bool
     ensures { result ≡ Swaps (val d) (k_of r length) }
 {
-    if d.is_zero() {
-        return false;
-    }
-    2 * (length as u32) <= r as u32
+    !d.is_zero() && 2 * (length as u32) <= r as u32
 }
 
 // The length after a swap at iteration r.
@@ -25,17 +21,9 @@ pub fn next_length(length: u16, r: u8) -> u16
     r as u16 + 1 - length
 }
 
-// The difference a - b.
-fn minus(a: u32, b: u32) -> i32
-    requires { a + b < 2 ^ 31 }
-    ensures { result ≡ sub_ℕ a b }
-{
-    a as i32 - b as i32
-}
-
 // The number k after r iterations: r - 2·length.
 pub fn k(length: u16, r: u8) -> i32
     ensures { result ≡ k_of r length }
 {
-    minus(r as u32, 2 * (length as u32))
+    r as i32 - (2 * (length as u32)) as i32
 }

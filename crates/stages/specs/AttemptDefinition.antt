@@ -7,7 +7,7 @@
 --   Tried h t n S s a a is the answer of settling, the first root being α^h, with what the solver s has found: sound,
 --                     whatever s is; and the pattern that settles the subword, if s is at the end of rounds that are
 --                     the first 2t syndromes of S
-use Rattle.std.specs.Prelude.{ℕ, zero, suc, ◌*◌, ◌≡◌, List, []}
+use Rattle.std.specs.Prelude.{ℕ, zero, suc, ◌*◌, ◌≡◌, List, [], Option, IfSome}
 use Rattle.field.specs.Field.{F}
 use Rattle.series.specs.Series.{Series}
 use Rattle.series.specs.Degree.{below}
@@ -35,8 +35,8 @@ pub record Ready (p : Profile) (f : Form) (r : ℕ) (S : Series) (s : Solver) : 
   pub ended : Ended f (earlier p S r) s
   pub past : below (2 * capability p r) S
 
-abbrev pub Tried : (h t n : ℕ) → Series → Solver → Settled → Type 0
+abbrev pub Tried : (h t n : ℕ) → Series → Solver → Option Settled → Type 0
 Tried h t n S s a =
-    Sound h t n S a
+    IfSome a (Sound h t n S)
     × ((f : Form) (rounds : List (List F)) → Ended f rounds s → joined rounds ≡ word (2 * t) S
     → answer n a ≡ settle h t n S)

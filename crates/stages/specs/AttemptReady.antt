@@ -2,7 +2,7 @@
 --
 -- Proved, for a valid profile: a solver that is ready for a stage, taken through the syndromes that the stage adds, is
 -- at the end of the stage (ready_advance), and what it has found there is what settles the subword (kept).
-use Rattle.std.specs.Prelude.{ℕ, zero, suc, ◌-◌, ◌*◌, ◌≤◌, ◌≡◌, refl, ◌≢◌}
+use Rattle.std.specs.Prelude.{ℕ, zero, suc, ◌-◌, ◌*◌, ◌≤◌, ◌≡◌, refl, ◌≢◌, Option, IfSome}
 use Rattle.std.proofs.Common.{ap, subst, arith}
 use Rattle.series.specs.Series.{Series}
 use Rattle.profile.specs.declared.Profile.{Profile}
@@ -35,23 +35,24 @@ module _ (p : Profile) (r : ℕ) where
   pub seen_before-next : r ≢ 0 → seen_before p r ≡ 2 * capability p (r - 1)
   seen_before-next h = let e : r ≡ suc (r - 1) = omega (arith, h) in ap (seen_before p) e
 
-module _ (p : Profile) (ok : Valid p) (r : ℕ) (h : r ≤ p.nested) (S : Series) (s q : Solver) (a : Settled) where
-  pub kept : (u v t : ℕ) → u ≡ seen_before p r → v ≡ 2 * capability p r → t ≡ capability p r → Advanced u v S s q
-      → Tried (first-root p) t p.length S q a
-      → record {
-        sound : Sound (first-root p) (capability p r) p.length S a;
-        settled : (f : Form) → Ready p f r S s → answer p.length a ≡ settle_at p r S;
-        solver : (f : Form) → Ready p f r S s → Ended f (rounds_of p S r) q;
-      }
-  kept u v t eu ev et advanced tried =
-      let at : Tried (first-root p) (capability p r) p.length S q a =
-      subst (λ t. Tried (first-root p) t p.length S q a) et tried in
-      record {
-        sound = at.0;
-        settled = λ f ready. at.1 f _ (end f ready) (rounds-joined p ok S r h);
-        solver = end;
-      }
-    where
-      end : (f : Form) → Ready p f r S s → Ended f (rounds_of p S r) q
-      end f = ready_advance p ok f S s r q h
-          (subst (λ u. Advanced u (2 * capability p r) S s q) eu (subst (λ v. Advanced u v S s q) ev advanced))
+module _ (p : Profile) (ok : Valid p) (r : ℕ) (h : r ≤ p.nested) (S : Series) (s q : Solver) (a : Option Settled)
+  where
+    pub kept : (u v t : ℕ) → u ≡ seen_before p r → v ≡ 2 * capability p r → t ≡ capability p r → Advanced u v S s q
+        → Tried (first-root p) t p.length S q a
+        → record {
+          sound : IfSome a (Sound (first-root p) (capability p r) p.length S);
+          settled : (f : Form) → Ready p f r S s → answer p.length a ≡ settle_at p r S;
+          solver : (f : Form) → Ready p f r S s → Ended f (rounds_of p S r) q;
+        }
+    kept u v t eu ev et advanced tried =
+        let at : Tried (first-root p) (capability p r) p.length S q a =
+        subst (λ t. Tried (first-root p) t p.length S q a) et tried in
+        record {
+          sound = at.0;
+          settled = λ f ready. at.1 f _ (end f ready) (rounds-joined p ok S r h);
+          solver = end;
+        }
+      where
+        end : (f : Form) → Ready p f r S s → Ended f (rounds_of p S r) q
+        end f = ready_advance p ok f S s r q h
+            (subst (λ u. Advanced u (2 * capability p r) S s q) eu (subst (λ v. Advanced u v S s q) ev advanced))

@@ -3,7 +3,7 @@
 --   verdict_of v       what a verdict says
 --   said l             what a line says of its subword
 --   says lines i       what line i says; clean where there is no such line
---   Has lines i l      the line l stands at i
+--   Has xs i x         x stands at i
 --   Started f lines    eight lines at their start
 --   Counted m lines    none of the first m lines has more bits than a subword of 255 symbols
 --   Tells f x r        the report r says what x says, each solver in the form f at the end of its subword's rounds
@@ -26,8 +26,8 @@ said l = record { verdict = verdict_of l.verdict; bits = l.bits }
 unfoldable pub says : List Line → ℕ → staged.Line
 says lines i = get_or (map said lines) i staged.clean_line
 
-abbrev pub Has : List Line → ℕ → Line → Type 0
-Has lines i l = (i < length lines) × ((d : Line) → get_or lines i d ≡ l)
+abbrev pub Has : {A : Type 0} → List A → ℕ → A → Type 0
+Has {A} xs i x = (i < length xs) × ((d : A) → get_or xs i d ≡ x)
 
 pub record Started (f : Form) (lines : List Line) : Type 0 where
   pub long : length lines ≡ 8

@@ -5,8 +5,9 @@
 -- corrected-is); what becomes of a subword that no pattern settles (took-none), that one settles (took-some), and that
 -- is clean (took-clean); with no change at stage 0 the row is zero (no_change).
 use Rattle.std.specs.Prelude.{ℕ, zero, suc, ◌+◌, ◌-◌, ◌*◌, ◌≤◌, ◌<◌, ◌≡◌, ◌≢◌, Bool, true, false, ◌&&◌, List, eqb}
+use Rattle.std.specs.Prelude.{Option, Some, None, IfSome}
 use Rattle.std.proofs.Math.Path.{refl, sym, ap, fun_ext, subst}
-use Rattle.std.proofs.Common.{ap₂, ◌∙◌, true≢false, arith, add-zero, add-one, eqb-true, eq-eqb, ne_eqb}
+use Rattle.std.proofs.Common.{ap₂, ◌∙◌, true≢false, arith, add-zero, add-one, eqb-true, eq-eqb}
 use Rattle.std.proofs.Math.Logic.{by_cases}
 use Rattle.std.proofs.Math.Decide.{dec_lt, ℕ_discrete}
 use Rattle.std.specs.Int.Bits.{bit_xor}
@@ -31,6 +32,7 @@ use Rattle.code.specs.Word.{root}
 use Rattle.code.specs.Systematic.{syndrome-is}
 use Rattle.settling.specs.Definition.{Explains, settle}
 use Rattle.settling.specs.Settle.{settle-zero}
+use Rattle.settle.specs.declared.Settled as found
 use Rattle.settle.specs.Answer.{answer, Sound}
 use Rattle.solver.specs.ContinuationDefinition.{Ended}
 use Rattle.staged_decoding.specs.Definition.{verdict_at, clean_line, bit_weight, add, line_rounds, rounds_of}
@@ -41,6 +43,7 @@ use Rattle.stages.specs.AttemptDefinition.{Ready}
 use Rattle.stages.specs.declared.report.Line.{Line}
 use Rattle.stages.specs.declared.report.Verdict.{Verdict}
 use Rattle.stages.specs.declared.report.Verdict.TheVariants.{Clean, Corrected}
+use Rattle.stages.specs.declared.subword.State.TheVariants.{Pending, Settled}
 use Rattle.stages.specs.Report.{verdict_of, said}
 use Rattle.stages.specs.SubwordDefinition.{Offered, Took}
 
@@ -125,40 +128,36 @@ corrected-is r k h =
 
 module _ (p : Profile) (f : Form) (r i : ℕ) (S : Series) (b : Series) where
   module _ (a : Attempted) (o : Offered p f r S a) where
-    pub took-none : (l : Line) → a.settled.found ≡ false → said l ≡ clean_line → l.solver ≡ a.solver
-        → Took p f r i S (answer p.length a.settled) b b (record { pending = true; line = l })
-    unfolding answer
-    took-none l missing blank kept = rw (missing, kept) (refl, refl, blank, o.solver)
+    pub took-none : a.settled ≡ None → Took p f r i S (answer p.length a.settled) b b (Pending a.solver)
+    took-none missing = rw missing (refl, o.solver)
 
-    pub took-some : (c : Series) (v : Verdict) (bits : ℕ) → a.settled.found ≡ true
-        → c ≡ add p.length i (cut p.length (values a.settled.pattern)) b
-        → verdict_of v ≡ verdict_at r a.settled.count
-        → bits ≡ bit_weight p.length (values a.settled.pattern)
+    pub took-some : (w : found.Settled) (c : Series) (v : Verdict) (bits : ℕ) → a.settled ≡ Some w
+        → c ≡ add p.length i (cut p.length (values w.pattern)) b
+        → verdict_of v ≡ verdict_at r w.count
+        → bits ≡ bit_weight p.length (values w.pattern)
         → Took p f r i S (answer p.length a.settled) b c
-        (record { pending = false; line = record { verdict = v; bits = bits; solver = a.solver } })
-    unfolding answer
-    took-some c v bits hit is says counted =
+        (Settled (record { verdict = v; bits = bits; solver = a.solver }))
+    took-some w c v bits hit is says counted =
         let n = p.length in
-        let g = values a.settled.pattern in
-        let k : a.settled.count ≡ weight n (entry (word n g)) = o.count ∙ sym (weight-word n g) in
+        let g = values w.pattern in
+        let (count, some) = rw hit at o.settled in
+        let k : w.count ≡ weight n (entry (word n g)) = count ∙ sym (weight-word n g) in
         let same_bits : bit_weight n g ≡ bit_weight n (entry (word n g)) =
         sym (bit_weight_cong n _ g (entry-word n g)) in
         rw hit (
-          refl,
           is ∙ ap (λ e. add n i e b) (sym (word_cut n g)),
           λ j. record { verdict = (says ∙ ap (verdict_at r) k) j; bits = (counted ∙ same_bits) j },
           subst (λ k. Ended f (line_rounds p S (verdict_at r k)) a.solver) k
               (subst (λ v. Ended f (line_rounds p S v) a.solver)
-              (corrected-is r _ (λ (e, z). o.some hit e z)) o.solver),
+              (corrected-is r _ (λ (e, z). some e z)) o.solver),
         )
 
   pub took-clean : (t : ℕ) (s : Solver) (l : Line) → p.length ≤ 255 → r ≡ 0 → S ≡ O → Ready p f r S s
       → said l ≡ clean_line → l.solver ≡ s
-      → Took p f r i S (settle (first-root p) t p.length S) b b (record { pending = false; line = l })
+      → Took p f r i S (settle (first-root p) t p.length S) b b (Settled l)
   took-clean t s l hn e z h blank kept =
       let n = p.length in
       rw (z, settle-zero (first-root p) t n hn, kept) (
-        refl,
         add_none n i b ∙ ap (λ e. add n i e b) (sym (entry-none n)),
         blank ∙ (λ j. record { verdict = clean_is r _ e none-changed j; bits = sym no_bits j }),
         subst (λ v. Ended f (line_rounds p O v) s) (clean_is r _ e none-changed) (rw e at h.ended),
@@ -180,9 +179,6 @@ no_change h t n S e past x z =
 
 -- ---- clean or not
 
-pub clean_later : (r : ℕ) (b : Bool) → r ≢ 0 → false ≡ (eqb r 0 && b)
-clean_later r b h = sym (rw (ne_eqb r 0 h))
-
 pub clean-first : (r : ℕ) (b : Bool) → r ≡ 0 → b ≡ (eqb r 0 && b)
 clean-first r b e = sym (rw (eq-eqb r 0 e))
 
@@ -195,13 +191,17 @@ clean_yes r b h = go (eqb r 0) refl h
 
 pub offered : (p : Profile) (f : Form) (r : ℕ) (l : List Gf) (s : Solver) (a : Attempted)
     → (eqb r 0 && holds (zero? l)) ≡ false
-    → Ready p f r (row l) s → Sound (first-root p) (capability p r) p.length (row l) a.settled
+    → Ready p f r (row l) s → IfSome a.settled (Sound (first-root p) (capability p r) p.length (row l))
     → Ended f (rounds_of p (row l) r) a.solver
     → Offered p f r (row l) a
-offered p f r l s a dirty ready sound ended = record {
-  count = sound.count;
-  solver = ended;
-  some = λ hit e z. zero_not l (clean-first r _ e ∙ dirty)
-      (no_change (first-root p) (capability p r) p.length (row l) _ ready.past (sound.explains hit)
-      (sym sound.count ∙ z));
-}
+offered p f r l s a dirty ready sound ended = record { solver = ended; settled = go a.settled sound }
+  where
+    go : (o : Option found.Settled) → IfSome o (Sound (first-root p) (capability p r) p.length (row l))
+        → IfSome o (λ w. (w.count ≡ weight p.length (values w.pattern)) × (r ≡ 0 → w.count ≢ 0))
+    go None sound = tt
+    go (Some w) sound = (
+      sound.count,
+      λ e z. zero_not l (clean-first r _ e ∙ dirty)
+          (no_change (first-root p) (capability p r) p.length (row l) _ ready.past sound.explains
+          (sym sound.count ∙ z)),
+    )

@@ -6,65 +6,65 @@ mod attempt;
 pub mod report;
 mod subword;
 
-ghost use Rattle.std.specs.Prelude.{◌-◌, ◌*◌, ◌≤◌, ◌<◌, ◌≡◌, ◌&&◌, leb, length};
+ghost use Rattle.std.specs.Prelude.{◌-◌, ◌*◌, ◌≤◌, ◌<◌, ◌≡◌, ◌&&◌, leb, map};
 ghost use Rattle.series.specs.Array.{bytes};
 ghost use Rattle.profile.specs.Valid.{Valid};
 ghost use Rattle.block.specs.Parts.{Fits};
 ghost use Rattle.block.specs.Table.{table};
 ghost use Rattle.code.specs.Check.{received};
 ghost use Rattle.block.specs.CodewordDefinition.{Further};
-ghost use Rattle.stages.specs.View.{view, waiting, Before, Came, Extended, Reached};
+ghost use Rattle.stages.specs.View.{pending?, view, waiting, Before, Came, Extended, Reported, Reached};
 
 use crate::report::Line;
+use crate::subword::State;
 use field::Gf;
 use polynomial::SYNDROMES;
 use profile::{Profile, SUBWORDS};
-use solver::Form;
+use solver::{Form, Solver};
 
-// All subwords after a stage.
-#[derive(Clone, Copy)]
-struct Staged {
-    pending: [bool; SUBWORDS],
-    lines: [Line; SUBWORDS],
-}
-
-// How decoding ended, after which stage: every subword is settled, or too many are not. The line of one that is not
-// settled says clean, and its solver is at the end of that stage.
+// Where decoding ended: after which stage, with which lines. The line of a subword that is not settled says clean, and
+// its solver is at the end of that stage.
 #[derive(Clone, Copy)]
 pub struct Ending {
-    pub settled: bool,
     pub stage: u8,
     pub lines: [Line; SUBWORDS],
+}
+
+// Which subwords are pending.
+fn pending(states: &[State; SUBWORDS]) -> [bool; SUBWORDS]
+    ensures { result ≡ map pending? states.now }
+{
+    // A loop: by array::from_fn, over states that are lent, the goal `returns` stays open.
+    let mut flags = [false; SUBWORDS];
+    for i in 0..SUBWORDS {
+        flags[i] = states[i].is_pending();
+    }
+    flags
+}
+
+// The lines of the subwords in the report.
+fn lines(states: [State; SUBWORDS]) -> [Line; SUBWORDS]
+    ensures { Reported states result }
+{
+    states.map(|s| s.line())
 }
 
 // Stage r of every subword.
 fn stage(
     p: Profile,
     r: u8,
-    pending: [bool; SUBWORDS],
-    lines: [Line; SUBWORDS],
+    states: &mut [State; SUBWORDS],
     table: [[Gf; SYNDROMES]; SUBWORDS],
     block: &mut [u8],
-) -> Staged
+)
     requires { Fits p block.old × (r ≤ p.nested) }
-    ensures long { (length result.pending ≡ 8) × (length result.lines ≡ 8) }
-    ensures stage { (f : Form) → Before p f r (view block.old pending lines table) lines
-        → Came p f r (view block.old pending lines table) block.new result table }
+    ensures { (f : Form) → Before p f r (view block.old states.old table) states.old
+        → Came p f r (view block.old states.old table) block.new states.new table }
 {
-    let m = p.subwords as usize;
-    let mut flags = pending;
-    let mut done = lines;
-    let mut i: usize = 0;
-    while i < m {
-        let t = crate::subword::stage(p, r, i, flags[i], done[i], table[i], block);
-        flags[i] = t.pending;
-        let l = t.line;
-        done[i] = l;
-        i = i + 1;
-    }
-    Staged {
-        pending: flags,
-        lines: done,
+    for i in 0..p.subwords as usize {
+        // In two steps: the borrow checker does not cover a result that goes straight into an array.
+        let after = crate::subword::stage(p, r, i, states[i], table[i], block);
+        states[i] = after;
     }
 }
 
@@ -73,60 +73,64 @@ fn round(
     p: Profile,
     u: &[u64],
     r: u8,
-    pending: [bool; SUBWORDS],
+    states: &[State; SUBWORDS],
     table: [[Gf; SYNDROMES]; SUBWORDS],
     block: &[u8],
 ) -> [[Gf; SYNDROMES]; SUBWORDS]
     requires { Fits p block.now × Further p u.now × (r < p.nested) }
-    ensures { Extended p r block.now pending table result }
+    ensures { Extended p r block.now states.now table result }
 {
     let from = 2 * p.capability(r) as usize;
     let to = 2 * p.capability(r + 1) as usize;
-    extend::extend(p, u, pending, block, from, to, table)
+    extend::extend(p, u, pending(states), block, from, to, table)
+}
+
+// How many subwords are pending.
+fn unsettled(p: Profile, states: &[State; SUBWORDS]) -> usize
+    requires { p.subwords ≤ 8 }
+    ensures { result ≡ waiting p states.now }
+{
+    extend::lagrange::unsettled(p, pending(states))
 }
 
 // Whether a round follows stage r: some subwords are pending, and not too many.
-fn follows(p: Profile, r: u8, pending: [bool; SUBWORDS]) -> bool
+fn follows(p: Profile, r: u8, states: &[State; SUBWORDS]) -> bool
     requires { Valid p × (r ≤ p.nested) }
-    ensures { result ≡ (leb 1 (waiting p pending) && leb (waiting p pending) (p.nested - r)) }
+    ensures { result ≡ (leb 1 (waiting p states.now) && leb (waiting p states.now) (p.nested - r)) }
 {
-    let b = extend::lagrange::unsettled(p, pending);
-    if b == 0 {
-        return false;
-    }
-    b <= (p.nested - r) as usize
+    let b = unsettled(p, states);
+    1 <= b && b <= (p.nested - r) as usize
 }
 
 // The stages, up to the one after which every subword is settled or too many are not, from the received subwords'
-// syndromes. A round goes by the table for the further roots of nested words.
+// syndromes. A round goes by the table for the further roots of nested words. Err: too many are not settled.
 pub fn run(
     p: Profile,
     form: Form,
     u: &[u64],
     syndromes: [[Gf; SYNDROMES]; SUBWORDS],
     block: &mut [u8],
-) -> Ending
+) -> Result<Ending, Ending>
     requires { Fits p block.old × Further p u.now
         × (table syndromes ≡ received p (bytes block.old) (2 * p.t0)) }
     ensures { Reached p form (bytes block.old) (bytes block.new) result }
 {
     let mut table = syndromes;
-    let fresh = crate::report::start(form);
-    let first = stage(p, 0, [true; SUBWORDS], fresh, table, block);
-    let mut pending = first.pending;
-    let mut lines = first.lines;
+    let mut states = [State::Pending(Solver::start(form)); SUBWORDS];
+    stage(p, 0, &mut states, table, block);
     let mut r: u8 = 0;
-    while follows(p, r, pending) {
-        let further = round(p, u, r, pending, table, block);
+    while follows(p, r, &states) {
+        let further = round(p, u, r, &states, table, block);
         table = further;
-        r = r + 1;
-        let s = stage(p, r, pending, lines, table, block);
-        pending = s.pending;
-        lines = s.lines;
+        r += 1;
+        stage(p, r, &mut states, table, block);
     }
-    Ending {
-        settled: extend::lagrange::unsettled(p, pending) == 0,
+    let end = Ending {
         stage: r,
-        lines: lines,
+        lines: lines(states),
+    };
+    if unsettled(p, &states) == 0 {
+        return Ok(end);
     }
+    Err(end)
 }

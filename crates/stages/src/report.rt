@@ -8,7 +8,7 @@ ghost use Rattle.stages.specs.Report.{verdict_of, said, says, Started, Counted, 
 use profile::SUBWORDS;
 use solver::{Form, Solver};
 
-// Clean, or corrected with so many changes at that stage.
+// Clean, or corrected with so many changes at that stage. An own enum: None of an Option would not say clean.
 #[derive(Clone, Copy)]
 pub enum Verdict {
     Clean,
@@ -39,8 +39,7 @@ fn changes(l: Line) -> u16
     ensures value { result ≡ count_of (verdict_of l.verdict) }
     ensures small { result ≤ 255 }
 {
-    let v = l.verdict;
-    match v {
+    match l.verdict {
         Verdict::Clean => 0,
         Verdict::Corrected(count, _) => count as u16,
     }
@@ -53,20 +52,17 @@ pub fn summed(lines: [Line; SUBWORDS], m: usize, last: u8) -> Report
     ensures changed { result.changed ≡ total m (λ i. count_of (says lines i).verdict) }
     ensures bits { result.bits ≡ total m (λ i. (says lines i).bits) }
 {
-    let mut changed: u16 = 0;
-    let mut bits: u16 = 0;
-    let mut i: usize = 0;
-    while i < m {
-        let l = lines[i];
-        changed = changed + changes(l);
-        bits = bits + l.bits;
-        i = i + 1;
+    let mut changed = 0;
+    let mut bits = 0;
+    for i in 0..m {
+        changed += changes(lines[i]);
+        bits += lines[i].bits;
     }
     Report {
-        lines: lines,
-        changed: changed,
-        bits: bits,
-        last: last,
+        lines,
+        changed,
+        bits,
+        last,
     }
 }
 
@@ -85,18 +81,15 @@ pub fn clean(s: Solver) -> Line
 pub fn start(form: Form) -> [Line; SUBWORDS]
     ensures { Started form result }
 {
-    let s = Solver::start(form);
-    let l = clean(s);
-    [l; SUBWORDS]
+    [clean(Solver::start(form)); SUBWORDS]
 }
 
 // The report of an untouched block: clean lines, nothing changed, stage 0.
 pub fn empty(form: Form) -> Report
     ensures { Tells form untouched result }
 {
-    let lines = start(form);
     Report {
-        lines: lines,
+        lines: start(form),
         changed: 0,
         bits: 0,
         last: 0,

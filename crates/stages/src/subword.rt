@@ -1,6 +1,6 @@
 // One stage of one subword, in a block that is lent: it is settled already, clean or attempted. What the promises speak
 // of stands in specs/SubwordDefinition.antt.
-ghost use Rattle.std.specs.Prelude.{◌+◌, ◌≤◌, ◌<◌, ◌≡◌, true, false, ◌&&◌, eqb, length};
+ghost use Rattle.std.specs.Prelude.{◌+◌, ◌≤◌, ◌<◌, ◌≡◌, true, ◌&&◌, eqb, length};
 ghost use Rattle.std.specs.Int.Bits.{bit_xor};
 ghost use Rattle.std.specs.Int.Count.{ones};
 ghost use Rattle.field.specs.Field.{byte, val};
@@ -8,14 +8,14 @@ ghost use Rattle.series.specs.Series.{Series, K, ◌⊞◌, ◌⊠◌};
 ghost use Rattle.series.specs.Shift.{zpow, cut};
 ghost use Rattle.series.specs.Array.{bytes, values};
 ghost use Rattle.series.specs.Decide.{holds};
-ghost use Rattle.polynomial.specs.Polynomial.{row as Row, Clear};
+ghost use Rattle.polynomial.specs.Polynomial.{row as Row};
 ghost use Rattle.polynomial.specs.SyndromesZero.{zero?};
 ghost use Rattle.block.specs.Parts.{Fits};
 ghost use Rattle.settle.specs.Answer.{answer};
-ghost use Rattle.staged_decoding.specs.Definition.{verdict_at, bit_weight, add, settle_at};
-ghost use Rattle.stages.specs.AttemptDefinition.{Ready};
+ghost use Rattle.staged_decoding.specs.Definition.{verdict_at, bit_weight, add};
 ghost use Rattle.stages.specs.Report.{verdict_of};
-ghost use Rattle.stages.specs.SubwordDefinition.{Offered, Took, Stayed};
+ghost use Rattle.stages.specs.View.{pending?, Told};
+ghost use Rattle.stages.specs.SubwordDefinition.{Offered, Took, Goes};
 
 use crate::attempt::Attempted;
 use crate::report::{Line, Verdict};
@@ -27,30 +27,47 @@ use solver::{Form, Solver};
 // The symbols of a part of a pattern; five parts are a whole one.
 const PART: usize = 51;
 
-// A subword after a stage. The verdict of one that is pending, not settled yet, is clean.
+// A subword between two stages: pending, not settled yet, with its solver; or settled, with its line.
 #[derive(Clone, Copy)]
-pub struct StagedSubword {
-    pub pending: bool,
-    pub line: Line,
+pub enum State {
+    Pending(Solver),
+    Settled(Line),
+}
+
+impl State {
+    pub fn is_pending(&self) -> bool
+        ensures { result ≡ pending? self.now }
+    {
+        matches!(self, State::Pending(_))
+    }
+
+    // Its line in the report: clean while it is pending.
+    pub fn line(self) -> Line
+        ensures { Told self result }
+    {
+        match self {
+            State::Pending(solver) => crate::report::clean(solver),
+            State::Settled(line) => line,
+        }
+    }
 }
 
 // Settled at stage r by so many changes.
 fn verdict_of(r: u8, count: u8) -> Verdict
     ensures { verdict_of result ≡ verdict_at r count }
 {
-    if r == 0 {
-        if count == 0 {
-            return Verdict::Clean;
-        }
+    if r == 0 && count == 0 {
+        Verdict::Clean
+    } else {
+        Verdict::Corrected(count, r)
     }
-    Verdict::Corrected(count, r)
 }
 
 // In how many bits a received symbol and what it is corrected to differ.
 fn wrong_bits(received: u8, corrected: u8) -> u16
     ensures { result ≡ ones (bit_xor received corrected) }
 {
-    u8::count_ones(received ^ corrected) as u16
+    (received ^ corrected).count_ones() as u16
 }
 
 // A change is added to the symbol at k: how many bits that changes.
@@ -65,22 +82,6 @@ fn change(k: usize, e: Gf, block: &mut [u8]) -> u16
     wrong_bits(received, corrected)
 }
 
-// Whether a pattern has no change from `from` to `to` - 1. No branch is taken in the loop, so that many symbols are
-// looked at together.
-fn clear(pattern: [Gf; POSITIONS], from: usize, to: usize) -> bool
-    requires { to ≤ 255 }
-    ensures { result ≡ true → Clear (values pattern) from to }
-{
-    let mut any: u8 = 0;
-    let mut q = from;
-    while q < to {
-        let e = pattern[q];
-        any = any | e.0;
-        q = q + 1;
-    }
-    any == 0
-}
-
 // The part of a pattern from `from` to `to` - 1 is added to the subword that begins at a: how many bits that changes.
 fn correct_part(a: usize, from: usize, to: usize, pattern: [Gf; POSITIONS], block: &mut [u8]) -> u16
     requires { (from ≤ to) × (to ≤ 255) × (a + to ≤ length block.old) }
@@ -88,17 +89,15 @@ fn correct_part(a: usize, from: usize, to: usize, pattern: [Gf; POSITIONS], bloc
         ≡ bytes block.old ⊞ zpow a ⊠ cut to (values pattern) }
     ensures bits { result + bit_weight from (values pattern) ≡ bit_weight to (values pattern) }
 {
-    if clear(pattern, from, to) {
+    if kernel::is_zero(&pattern[from..to]) {
         return 0;
     }
-    let mut bits: u16 = 0;
-    let mut q = from;
-    while q < to {
+    let mut bits = 0;
+    for q in from..to {
         let e = pattern[q];
         if !e.is_zero() {
-            bits = bits + change(a + q, e, block);
+            bits += change(a + q, e, block);
         }
-        q = q + 1;
     }
     bits
 }
@@ -113,50 +112,36 @@ fn correct(p: Profile, i: usize, pattern: [Gf; POSITIONS], block: &mut [u8]) -> 
 {
     let n = p.length as usize;
     let a = i * n;
-    let mut bits: u16 = 0;
-    let mut q: usize = 0;
-    while q + PART <= n {
-        bits = bits + correct_part(a, q, q + PART, pattern, block);
-        q = q + PART;
+    let whole = n / PART;
+    let mut bits = 0;
+    for k in 0..whole {
+        bits += correct_part(a, PART * k, PART * (k + 1), pattern, block);
     }
-    bits + correct_part(a, q, n, pattern, block)
+    bits + correct_part(a, PART * whole, n, pattern, block)
 }
 
 // What an attempt has brought is taken: the block is corrected if the subword is settled.
-fn take(p: Profile, r: u8, i: usize, a: Attempted, block: &mut [u8]) -> StagedSubword
+fn take(p: Profile, r: u8, i: usize, a: Attempted, block: &mut [u8]) -> State
     requires { Fits p block.old × (i < p.subwords) }
     ensures { (f : Form) (S : Series) → Offered p f r S a → Took p f r i S (answer p.length a.settled)
         (bytes block.old) (bytes block.new) result }
 {
-    let s = a.solver;
-    let w = a.settled;
-    if !w.found {
-        return StagedSubword {
-            pending: true,
-            line: crate::report::clean(s),
-        };
-    }
-    let pattern = w.pattern;
-    let bits = correct(p, i, pattern, block);
-    let v = verdict_of(r, w.count);
-    StagedSubword {
-        pending: false,
-        line: Line {
-            verdict: v,
-            bits: bits,
-            solver: s,
-        },
-    }
+    let Some(found) = a.settled else {
+        return State::Pending(a.solver);
+    };
+    let bits = correct(p, i, found.pattern, block);
+    State::Settled(Line {
+        verdict: verdict_of(r, found.count),
+        bits,
+        solver: a.solver,
+    })
 }
 
 // Whether a subword is clean, which shows at stage 0.
 fn is_clean(r: u8, row: [Gf; SYNDROMES]) -> bool
     ensures { result ≡ (eqb r 0 && holds (zero? row)) }
 {
-    if r != 0 {
-        return false;
-    }
-    polynomial::syndromes::is_zero(row)
+    r == 0 && polynomial::syndromes::is_zero(row)
 }
 
 // Stage r of subword i. A clean subword runs no solver; one that is settled stays as it is.
@@ -164,30 +149,18 @@ pub fn stage(
     p: Profile,
     r: u8,
     i: usize,
-    pending: bool,
-    line: Line,
+    state: State,
     row: [Gf; SYNDROMES],
     block: &mut [u8],
-) -> StagedSubword
+) -> State
     requires { Fits p block.old × (i < p.subwords) × (r ≤ p.nested) }
-    ensures settled { pending ≡ false → Stayed line block.old block.new result }
-    ensures pending { pending ≡ true → (f : Form) → Ready p f r (Row row) line.solver
-        → Took p f r i (Row row) (settle_at p r (Row row)) (bytes block.old)
-        (bytes block.new) result }
+    ensures { Goes p r i (Row row) state block.old block.new result }
 {
-    if !pending {
-        return StagedSubword {
-            pending: false,
-            line: line,
-        };
-    }
-    let s = line.solver;
+    let State::Pending(solver) = state else {
+        return state;
+    };
     if is_clean(r, row) {
-        return StagedSubword {
-            pending: false,
-            line: crate::report::clean(s),
-        };
+        return State::Settled(crate::report::clean(solver));
     }
-    let a = crate::attempt::attempt(p, r, s, row);
-    take(p, r, i, a, block)
+    take(p, r, i, crate::attempt::attempt(p, r, solver, row), block)
 }

@@ -4,8 +4,8 @@
 // promised of what was read and written is proved from it (specs/Trace.antt).
 //
 // A call that is interrupted, or that would have to wait, is made again. A `Stream` tells whether a call failed for
-// another reason, and why. A `Stream` that was handed to a function is used no more: the streams go on as the one that
-// comes back. Nothing is buffered: what a write took is out.
+// another reason, and why. It is lent to each call, and has changed when the call comes back. Nothing is buffered: what
+// a write took is out.
 #![tactic(auto)]
 
 ghost use Rattle.std.specs.Prelude.{◌≡◌, ◌<◌, ◌≤◌, true, length, take};
@@ -17,15 +17,15 @@ use std::io::{ErrorKind, Read, Stdin, Stdout, Write};
 use std::thread::yield_now;
 
 // How often a call is made again: a number that no run uses up.
-const TRIES: u64 = 18446744073709551615;
+const TRIES: u64 = u64::MAX;
 
 // The streams of a program.
-#[derive(Clone, Copy)]
+#[derive(Drop)]
 pub struct Stream {
     // how many bytes were read, and how many were written, modulo 2^64
     taken: u64,
     given: u64,
-    // the end of the input was met
+    // the end of the input was met; a flag, as is the next, since `Marks` says of each what a call leaves of it
     ended: bool,
     // a read failed
     unread: bool,
@@ -35,260 +35,189 @@ pub struct Stream {
     why: Option<io::Error>,
 }
 
-// What a call moved: the streams after it, and how many bytes at the start of the array.
-#[derive(Clone, Copy)]
-pub struct Moved {
-    pub stream: Stream,
-    pub size: usize,
-}
-
-// The streams as a program finds them.
-pub fn open() -> Stream
-    ensures { Opened result }
-{
-    Stream {
-        taken: 0,
-        given: 0,
-        ended: false,
-        unread: false,
-        unwritten: false,
-        why: None,
-    }
-}
-
-// Whether a read failed.
-pub fn is_unread(s: Stream) -> bool
-    ensures { result ≡ s.unread }
-{
-    s.unread
-}
-
-// Whether a write failed.
-pub fn is_unwritten(s: Stream) -> bool
-    ensures { result ≡ s.unwritten }
-{
-    s.unwritten
-}
-
-// What the system said of the last call that failed, if one did.
-pub fn reason(s: Stream) -> Option<io::Error>
-    ensures { result ≡ s.why }
-{
-    s.why
-}
-
-// The bytes were read.
-fn took(s: Stream, bytes: &[u8]) -> Stream
-    ensures { Took s bytes.now result }
-{
-    let n = s.taken.wrapping_add(bytes.len() as u64);
-    Stream {
-        taken: n,
-        given: s.given,
-        ended: s.ended,
-        unread: s.unread,
-        unwritten: s.unwritten,
-        why: s.why,
-    }
-}
-
-// The bytes were written.
-fn gave(s: Stream, bytes: &[u8]) -> Stream
-    ensures { Gave s bytes.now result }
-{
-    let n = s.given.wrapping_add(bytes.len() as u64);
-    Stream {
-        taken: s.taken,
-        given: n,
-        ended: s.ended,
-        unread: s.unread,
-        unwritten: s.unwritten,
-        why: s.why,
-    }
-}
-
 // Whether a call that failed may be made again: a signal interrupted it, or it would have to wait.
 fn passes(kind: ErrorKind) -> bool {
-    if kind == ErrorKind::Interrupted {
-        return true;
-    }
-    kind == ErrorKind::WouldBlock
+    matches!(kind, ErrorKind::Interrupted | ErrorKind::WouldBlock)
 }
 
 // Whether a call that gave the answer `moved` is made again. Others may run before it is.
 fn again(moved: io::Result<usize>, tries: u64) -> bool
     ensures { result ≡ true → 0 < tries }
 {
-    match moved {
-        Ok(_) => false,
-        Err(error) => {
-            if tries == 0 {
-                return false;
-            }
-            if !passes(error.kind()) {
-                return false;
-            }
-            yield_now();
-            true
-        }
+    let Err(error) = moved else {
+        return false;
+    };
+    if tries == 0 || !passes(error.kind()) {
+        return false;
     }
+    yield_now();
+    true
 }
 
-// Reads once.
+// Reads once. Here and in `call_write`, the tries are counted by hand and not by a `for`: the must-fail edit `again`, a
+// call made again where no try is left, is refused by the promise of `again`.
 fn call_read(mut input: Stdin, buf: &mut [u8]) -> io::Result<usize>
     ensures { ReadsAtMost result buf.new }
 {
     let mut tries = TRIES;
     let mut moved = input.read(buf);
     while again(moved, tries) {
-        tries = tries - 1;
+        tries -= 1;
         moved = input.read(buf);
     }
     moved
 }
 
-// Writes once.
+// Writes once. No function serves both: it would take the call as a closure that holds the array, and its promise of
+// what the array holds would be longer than this loop.
 fn call_write(mut output: Stdout, buf: &[u8]) -> io::Result<usize>
     ensures { WritesAtMost result buf.now }
 {
     let mut tries = TRIES;
     let mut moved = output.write(buf);
     while again(moved, tries) {
-        tries = tries - 1;
+        tries -= 1;
         moved = output.write(buf);
     }
     moved
 }
 
-// The streams with what the system said, if a call failed that gave the answer `moved`.
-fn told(s: Stream, moved: io::Result<usize>) -> Stream
-    ensures stands { Stands s result }
-    ensures still { Still s result }
-{
-    match moved {
-        Ok(_) => s,
-        Err(error) => Stream {
-            taken: s.taken,
-            given: s.given,
-            ended: s.ended,
-            unread: s.unread,
-            unwritten: s.unwritten,
-            why: Some(error),
-        },
+impl Stream {
+    // The streams as a program finds them.
+    pub fn open() -> Stream
+        ensures { Opened result }
+    {
+        Stream {
+            taken: 0,
+            given: 0,
+            ended: false,
+            unread: false,
+            unwritten: false,
+            why: None,
+        }
     }
-}
 
-// The streams after a read of `size` bytes, where one was wanted at least.
-fn after(s: Stream, size: usize, failed: bool) -> Stream
-    ensures { Marks 1 s size result × Still s result }
-{
-    if 0 < size {
-        return s;
+    // Whether a read failed.
+    pub fn is_unread(&self) -> bool
+        ensures { result ≡ self.now.unread }
+    {
+        self.unread
     }
-    if failed {
-        return Stream {
-            taken: s.taken,
-            given: s.given,
-            ended: s.ended,
-            unread: true,
-            unwritten: s.unwritten,
-            why: s.why,
-        };
-    }
-    Stream {
-        taken: s.taken,
-        given: s.given,
-        ended: true,
-        unread: s.unread,
-        unwritten: s.unwritten,
-        why: s.why,
-    }
-}
 
-// The streams after a write that took nothing.
-fn lost(s: Stream) -> Stream
-    ensures { Lost s result }
-{
-    Stream {
-        taken: s.taken,
-        given: s.given,
-        ended: s.ended,
-        unread: s.unread,
-        unwritten: true,
-        why: s.why,
+    // Whether a write failed.
+    pub fn is_unwritten(&self) -> bool
+        ensures { result ≡ self.now.unwritten }
+    {
+        self.unwritten
     }
-}
 
-// Reads at least one byte, unless the input ends or the read fails. The array is not empty.
-fn read(s: Stream, input: Stdin, buf: &mut [u8]) -> Moved
-    ensures reads { Reads 1 s buf.new result.size result.stream }
-    ensures within { result.size ≤ length buf.new }
-{
-    let moved = call_read(input, buf);
-    let size = moved.unwrap_or(0);
-    let t = took(told(s, moved), &buf[..size]);
-    Moved {
-        stream: after(t, size, moved.is_err()),
-        size: size,
+    // What the system said of the last call that failed, if one did.
+    pub fn reason(&self) -> Option<io::Error>
+        ensures { result ≡ self.now.why }
+    {
+        self.why
     }
-}
 
-// Writes some of the bytes, or none if the write fails.
-#[tactic(auto, using(crate::specs::Laws::told_gave))]
-fn write(s: Stream, output: Stdout, buf: &[u8]) -> Moved
-    ensures gave { Gave s (take result.size buf.now) result.stream }
-    ensures within { result.size ≤ length buf.now }
-{
-    let moved = call_write(output, buf);
-    let size = moved.unwrap_or(0);
-    Moved {
-        stream: gave(told(s, moved), &buf[..size]),
-        size: size,
+    // The bytes were read.
+    fn took(&mut self, bytes: &[u8])
+        ensures { Took self.old bytes.now self.new }
+    {
+        self.taken = self.taken.wrapping_add(bytes.len() as u64);
     }
-}
 
-// Reads until the array is full, the input ends or a read fails. What it holds past the bytes that were read is left
-// open.
-pub fn fill(s: Stream, input: Stdin, buf: &mut [u8]) -> Moved
-    ensures reads { Reads (length buf.new) s buf.new result.size result.stream }
-    ensures counts { IsPrefixLen result.size buf.new }
-{
-    let mut x = s;
-    let mut at: usize = 0;
-    while at < buf.len() {
-        let r = read(x, input, &mut buf[at..]);
-        let size = r.size;
-        let y = r.stream;
-        x = y;
+    // The bytes were written.
+    fn gave(&mut self, bytes: &[u8])
+        ensures { Gave self.old bytes.now self.new }
+    {
+        self.given = self.given.wrapping_add(bytes.len() as u64);
+    }
+
+    // Keeps what the system said, if a call failed that gave the answer `moved`.
+    fn told(&mut self, moved: io::Result<usize>)
+        ensures stands { Stands self.old self.new }
+        ensures still { Still self.old self.new }
+    {
+        if let Err(error) = moved {
+            self.why = Some(error);
+        }
+    }
+
+    // Marks a read of `size` bytes, where one was wanted at least.
+    fn after(&mut self, size: usize, failed: bool)
+        ensures { Marks 1 self.old size self.new × Still self.old self.new }
+    {
         if size == 0 {
-            return Moved {
-                stream: x,
-                size: at,
-            };
+            if failed {
+                self.unread = true;
+            } else {
+                self.ended = true;
+            }
         }
-        at = at + size;
     }
-    Moved {
-        stream: x,
-        size: at,
-    }
-}
 
-// Writes all of the bytes, unless a write fails.
-pub fn write_all(s: Stream, output: Stdout, buf: &[u8]) -> Stream
-    ensures { Writes s buf.now result }
-{
-    let mut x = s;
-    let mut at: usize = 0;
-    while at < buf.len() {
-        let r = write(x, output, &buf[at..]);
-        let n = r.size;
-        let y = r.stream;
-        x = y;
-        if n == 0 {
-            return lost(x);
-        }
-        at = at + n;
+    // Marks a write that took nothing.
+    fn lost(&mut self)
+        ensures { Lost self.old self.new }
+    {
+        self.unwritten = true;
     }
-    x
+
+    // Reads at least one byte, unless the input ends or the read fails, and hands back how many. The array is not
+    // empty.
+    fn read(&mut self, input: Stdin, buf: &mut [u8]) -> usize
+        ensures reads { Reads 1 self.old buf.new result self.new }
+        ensures within { result ≤ length buf.new }
+    {
+        let moved = call_read(input, buf);
+        let size = moved.unwrap_or(0);
+        self.told(moved);
+        self.took(&buf[..size]);
+        self.after(size, moved.is_err());
+        size
+    }
+
+    // Writes some of the bytes, or none if the write fails, and hands back how many.
+    #[tactic(auto, using(crate::specs::Laws::told_gave))]
+    fn write(&mut self, output: Stdout, buf: &[u8]) -> usize
+        ensures gave { Gave self.old (take result buf.now) self.new }
+        ensures within { result ≤ length buf.now }
+    {
+        let moved = call_write(output, buf);
+        let size = moved.unwrap_or(0);
+        self.told(moved);
+        self.gave(&buf[..size]);
+        size
+    }
+
+    // Reads until the array is full, the input ends or a read fails, and hands back how many bytes were read. What the
+    // array holds past them is left open. The library's `read_exact` does not tell how many came where too few did.
+    pub fn fill(&mut self, input: Stdin, buf: &mut [u8]) -> usize
+        ensures reads { Reads (length buf.new) self.old buf.new result self.new }
+        ensures counts { IsPrefixLen result buf.new }
+    {
+        let mut at = 0;
+        while at < buf.len() {
+            let got = self.read(input, &mut buf[at..]);
+            if got == 0 {
+                return at;
+            }
+            at += got;
+        }
+        at
+    }
+
+    // Writes all of the bytes, unless a write fails. The library's `write_all` does not tell how many went before.
+    pub fn write_all(&mut self, output: Stdout, buf: &[u8])
+        ensures { Writes self.old buf.now self.new }
+    {
+        let mut at = 0;
+        while at < buf.len() {
+            let sent = self.write(output, &buf[at..]);
+            if sent == 0 {
+                self.lost();
+                return;
+            }
+            at += sent;
+        }
+    }
 }

@@ -11,102 +11,78 @@
 // first.
 #![tactic(auto)]
 
+use binary::Syndromes;
 use binary::direct::{Solved, TERMS};
 use field::Gf;
-use kernel::index;
-use listing::text::put;
 use std::io::{Stdin, Stdout};
 use test_support::{input, output, print};
 
-fn word(line: &mut [u8], at: usize, subword: &[u8], out: &mut [u8]) -> usize {
-    let a = binary::decode_binary(subword, out);
-    let mut end = put(line, at, b" |");
-    end = print::number(line, end, a.number() as usize);
-    end = put(line, end, b" |");
-    print::numbers(line, end, out)
-}
-
-fn word_case(stdin: Stdin, line: &mut [u8]) -> usize {
+fn word(stdin: Stdin, line: &mut print::Line) {
     let n = input::number(stdin);
-    let space = input::bytes(stdin, n);
+    let subword = input::bytes(stdin, n);
     let size = input::number(stdin);
-    let mut end = put(line, 0, b"word");
-    end = print::number(line, end, n);
-    end = print::number(line, end, size);
-    let mut out = output::bytes(size);
-    word(line, end, &space[..n], &mut out[..size])
+    let mut space = [output::BEFORE; input::MOST];
+    let out = &mut space[..size];
+    let number: u8 = match binary::decode_binary(subword.as_bytes(), out) {
+        Ok(()) => 0,
+        Err(q) => q.into(),
+    };
+    line.put(b"word");
+    print::number(line, n);
+    print::number(line, size);
+    line.put(b" |");
+    print::number(line, usize::from(number));
+    line.put(b" |");
+    print::numbers(line, out);
 }
 
 // The six coefficients of a polynomial.
-fn polynomial(line: &mut [u8], at: usize, f: [Gf; TERMS]) -> usize {
-    let mut end = put(line, at, b" |");
-    let mut i: usize = 0;
-    while i < TERMS {
-        let x = f[i];
-        end = print::number(line, end, index(x.0));
-        i = i + 1;
+fn polynomial(line: &mut print::Line, f: [Gf; TERMS]) {
+    line.put(b" |");
+    for x in &f {
+        print::number(line, usize::from(x.0));
     }
-    end
 }
 
-fn polynomials(line: &mut [u8], at: usize, s: Solved) -> usize {
-    let f = s.locator;
-    let b = s.auxiliary;
-    let d = s.delta;
-    let t = s.theta;
-    let mut end = polynomial(line, at, f);
-    end = polynomial(line, end, b);
-    end = polynomial(line, end, d);
-    polynomial(line, end, t)
+fn state(line: &mut print::Line, s: Solved) {
+    polynomial(line, s.locator);
+    polynomial(line, s.auxiliary);
+    polynomial(line, s.delta);
+    polynomial(line, s.theta);
+    line.put(b" |");
+    print::number(line, usize::from(s.gamma.0));
+    print::number(line, usize::from(s.length));
+    print::number(line, usize::from(s.auxiliary_length));
 }
 
-fn state(line: &mut [u8], at: usize, s: Solved) -> usize {
-    let g = s.gamma;
-    let mut end = polynomials(line, at, s);
-    end = put(line, end, b" |");
-    end = print::number(line, end, index(g.0));
-    end = print::number(line, end, index(s.length));
-    print::number(line, end, index(s.auxiliary_length))
-}
-
-fn solve_case(stdin: Stdin, line: &mut [u8]) -> usize {
+fn solve(stdin: Stdin, line: &mut print::Line) {
     let a = input::byte(stdin);
     let b = input::byte(stdin);
     let c = input::byte(stdin);
-    let mut end = put(line, 0, b"solve");
-    end = print::number(line, end, a);
-    end = print::number(line, end, b);
-    end = print::number(line, end, c);
-    state(
-        line,
-        end,
-        binary::direct::solve(Gf(a as u8), Gf(b as u8), Gf(c as u8)),
-    )
+    line.put(b"solve");
+    print::numbers(line, &[a, b, c]);
+    let s = Syndromes {
+        s0: Gf(a),
+        s2: Gf(b),
+        s4: Gf(c),
+    };
+    state(line, binary::direct::solve(s));
 }
 
 fn case(stdin: Stdin, stdout: Stdout) {
-    let mut line = input::buffer();
-    if input::byte(stdin) == 0 {
-        let end = word_case(stdin, &mut line);
-        finish(stdout, &mut line, end);
-        return;
+    let mut line = print::Line::new();
+    match input::byte(stdin) {
+        0 => word(stdin, &mut line),
+        _ => solve(stdin, &mut line),
     }
-    let end = solve_case(stdin, &mut line);
-    finish(stdout, &mut line, end);
-}
-
-fn finish(stdout: Stdout, line: &mut [u8], at: usize) {
-    let end = put(line, at, b"\n");
-    output::write(stdout, line, end);
+    line.put(b"\n");
+    output::write(stdout, &line);
 }
 
 fn main(rt: HostRuntime) {
     let stdin = rt.stdin();
     let stdout = rt.stdout();
-    let cases = input::number(stdin);
-    let mut i: usize = 0;
-    while i < cases {
+    for _ in 0..input::number(stdin) {
         case(stdin, stdout);
-        i = i + 1;
     }
 }

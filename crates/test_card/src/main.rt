@@ -7,75 +7,55 @@
 // byte first.
 #![tactic(auto)]
 
-ghost use Rattle.std.specs.Prelude.{◌≤◌, ◌<◌, ◌≡◌, false};
+ghost use Rattle.std.specs.Prelude.{◌<◌, ◌≡◌, false};
 ghost use Rattle.card.specs.SectionDefinition.{over, left};
 
 use card::section::Section;
-use listing::LINE;
-use listing::text::put;
+use listing::{LINE, Line};
 use std::io::{Stdin, Stdout};
 use test_support::{input, output, print};
-
-fn blank() -> [u8; LINE] {
-    [0u8; LINE]
-}
-
-// Where a section of n bytes ends that begins at `at`.
-fn end(at: usize, n: usize, size: usize) -> usize
-    requires { at ≤ size }
-    ensures from { at ≤ result }
-    ensures within { result ≤ size }
-{
-    if size - at < n {
-        return size;
-    }
-    at + n
-}
 
 // Prints the line of a section, and tells what comes next.
 fn step(stdout: Stdout, s: Section, bytes: &[u8]) -> Section
     ensures { over s ≡ false → left result < left s }
 {
-    let mut line = blank();
+    let mut line = [0; LINE];
     let t = card::judge(s, bytes, &mut line);
-    output::write(stdout, &line, t.size);
-    let next = t.next;
-    next
+    let mut text = Line::new();
+    text.put(&line[..t.size]);
+    output::write(stdout, &text);
+    t.next
 }
 
 fn list(stdout: Stdout, card: &[u8]) {
     let mut s = Section::Size;
-    let mut at: usize = 0;
-    while !card::section::is_over(s) {
-        let e = end(at, card::section::wanted(s), card.len());
-        let next = step(stdout, s, &card[at..e]);
-        s = next;
-        at = e;
+    let mut rest = card;
+    while !s.is_over() {
+        let n = s.wanted().min(rest.len());
+        s = step(stdout, s, &rest[..n]);
+        rest = &rest[n..];
     }
 }
 
 fn title(stdout: Stdout, n: usize) {
-    let mut line = blank();
-    let mut at = put(&mut line, 0, b"card of");
-    at = print::number(&mut line, at, n);
-    at = put(&mut line, at, b"\n");
-    output::write(stdout, &line, at);
+    let mut line = Line::new();
+    line.put(b"card of");
+    print::number(&mut line, n);
+    line.put(b"\n");
+    output::write(stdout, &line);
 }
 
 fn one(stdin: Stdin, stdout: Stdout) {
     let n = input::number(stdin);
-    let space = input::bytes(stdin, n);
+    let card = input::bytes(stdin, n);
     title(stdout, n);
-    list(stdout, &space[..n]);
+    list(stdout, card.as_bytes());
 }
 
 fn main(rt: HostRuntime) {
     let stdin = rt.stdin();
     let stdout = rt.stdout();
-    let count = input::number(stdin);
-    let mut i: usize = 0;
-    while i < count {
+    for _ in 0..input::number(stdin) {
         one(stdin, stdout);
-        i = i + 1;
     }
 }

@@ -14,120 +14,122 @@
 // of the block, the block and the size of the output. These numbers have two bytes, the high byte first.
 #![tactic(auto)]
 
-use listing::text::put;
-use profile::{Answer, Parsed};
+use listing::text::Text;
+use profile::Refusal;
 use solver::Form;
 use std::io::{Stdin, Stdout};
 use test_support::{input, output, print};
 
-fn answer(line: &mut [u8], at: usize, a: Answer) -> usize {
-    let mut end = put(line, at, b" |");
-    end = print::number(line, end, a.number() as usize);
-    put(line, end, b" |")
+// A line, with room for an output.
+type Line = Text<65536>;
+
+// What a case asks.
+#[derive(Clone, Copy)]
+enum Kind {
+    Profile,
+    Write,
+    Fetch,
+    Data,
 }
 
-fn parsed(line: &mut [u8], at: usize, number: u8, size: usize) -> usize {
-    let end = print::number(line, at, number as usize);
-    print::number(line, end, size)
-}
-
-fn profile_case(line: &mut [u8], at: usize, profile: &[u8]) -> usize {
-    match profile::questions::parse(profile) {
-        Parsed::Accepted(p) => parsed(line, at, 0, p.data_size()),
-        Parsed::Refused(q) => parsed(line, at, profile::number(q), 0),
+impl From<u8> for Kind {
+    fn from(byte: u8) -> Kind {
+        match byte {
+            0 => Kind::Profile,
+            1 => Kind::Write,
+            2 => Kind::Fetch,
+            _ => Kind::Data,
+        }
     }
 }
 
-fn write(line: &mut [u8], at: usize, profile: &[u8], data: &[u8], out: &mut [u8]) -> usize {
-    let end = answer(line, at, encoder::encode(profile, data, out));
-    print::numbers(line, end, out)
+impl Kind {
+    fn name(self) -> &'static str {
+        match self {
+            Kind::Profile => "profile",
+            Kind::Write => "write",
+            Kind::Fetch => "fetch",
+            Kind::Data => "data",
+        }
+    }
 }
 
-fn write_case(stdin: Stdin, line: &mut [u8], at: usize, profile: &[u8]) -> usize {
+fn answer(line: &mut Line, a: Result<(), Refusal>) {
+    line.put(b" |");
+    print::number(line, usize::from(profile::number(a)));
+    line.put(b" |");
+}
+
+fn parse(line: &mut Line, profile: &[u8]) {
+    let (number, size) = match profile::questions::parse(profile) {
+        Ok(p) => (0, p.data_size()),
+        Err(q) => (u8::from(q), 0),
+    };
+    print::number(line, usize::from(number));
+    print::number(line, size);
+}
+
+fn write(stdin: Stdin, line: &mut Line, profile: &[u8]) {
     let n = input::number(stdin);
-    let space = input::bytes(stdin, n);
+    let data = input::bytes(stdin, n);
     let size = input::number(stdin);
-    let mut end = print::number(line, at, n);
-    end = print::number(line, end, size);
-    let mut out = output::bytes(size);
-    write(line, end, profile, &space[..n], &mut out[..size])
+    print::number(line, n);
+    print::number(line, size);
+    let mut space = [output::BEFORE; input::MOST];
+    let out = &mut space[..size];
+    answer(line, encoder::encode(profile, data.as_bytes(), out));
+    print::numbers(line, out);
 }
 
-fn fetch(line: &mut [u8], at: usize, profile: &[u8], block: &[u8], i: usize) -> usize {
-    let end = answer(line, at, profile::fetch::answer(profile, block, i));
-    print::numbers(line, end, profile::fetch::part(profile, block, i))
-}
-
-fn fetch_case(stdin: Stdin, line: &mut [u8], at: usize, profile: &[u8]) -> usize {
+fn fetch(stdin: Stdin, line: &mut Line, profile: &[u8]) {
     let n = input::number(stdin);
     let space = input::bytes(stdin, n);
     let i = input::number(stdin);
-    let mut end = print::number(line, at, n);
-    end = print::number(line, end, i);
-    fetch(line, end, profile, &space[..n], i)
+    print::number(line, n);
+    print::number(line, i);
+    let block = space.as_bytes();
+    answer(line, profile::fetch::answer(profile, block, i));
+    print::numbers(line, profile::fetch::part(profile, block, i));
 }
 
-fn extract(line: &mut [u8], at: usize, profile: &[u8], block: &[u8], out: &mut [u8]) -> usize {
-    let r = decoder::extract(profile, block, out, Form::Plain);
-    let a = r.answer;
-    let end = answer(line, at, a);
-    print::numbers(line, end, out)
-}
-
-fn data_case(stdin: Stdin, line: &mut [u8], at: usize, profile: &[u8]) -> usize {
+fn extract(stdin: Stdin, line: &mut Line, profile: &[u8]) {
     let n = input::number(stdin);
-    let space = input::bytes(stdin, n);
+    let block = input::bytes(stdin, n);
     let size = input::number(stdin);
-    let mut end = print::number(line, at, n);
-    end = print::number(line, end, size);
-    let mut out = output::bytes(size);
-    extract(line, end, profile, &space[..n], &mut out[..size])
-}
-
-fn head(line: &mut [u8], name: &[u8], profile: &[u8]) -> usize {
-    let mut at = put(line, 0, name);
-    at = print::numbers(line, at, profile);
-    put(line, at, b" |")
-}
-
-fn case(stdin: Stdin, line: &mut [u8], kind: usize, profile: &[u8]) -> usize {
-    if kind == 0 {
-        let at = head(line, b"profile", profile);
-        return profile_case(line, at, profile);
-    }
-    if kind == 1 {
-        let at = head(line, b"write", profile);
-        return write_case(stdin, line, at, profile);
-    }
-    if kind == 2 {
-        let at = head(line, b"fetch", profile);
-        return fetch_case(stdin, line, at, profile);
-    }
-    let at = head(line, b"data", profile);
-    data_case(stdin, line, at, profile)
-}
-
-fn write_line(stdin: Stdin, stdout: Stdout, line: &mut [u8], kind: usize, profile: &[u8]) {
-    let mut at = case(stdin, line, kind, profile);
-    at = put(line, at, b"\n");
-    output::write(stdout, line, at);
+    print::number(line, n);
+    print::number(line, size);
+    let mut space = [output::BEFORE; input::MOST];
+    let out = &mut space[..size];
+    answer(
+        line,
+        decoder::extract(profile, block.as_bytes(), out, Form::Plain).answer,
+    );
+    print::numbers(line, out);
 }
 
 fn one(stdin: Stdin, stdout: Stdout) {
-    let kind = input::byte(stdin);
-    let n = input::byte(stdin);
+    let kind = Kind::from(input::byte(stdin));
+    let n = usize::from(input::byte(stdin));
     let space = input::bytes(stdin, n);
-    let mut line = input::large_buffer();
-    write_line(stdin, stdout, &mut line, kind, &space[..n]);
+    let profile = space.as_bytes();
+    let mut line = Line::new();
+    line.put(kind.name().as_bytes());
+    print::numbers(&mut line, profile);
+    line.put(b" |");
+    match kind {
+        Kind::Profile => parse(&mut line, profile),
+        Kind::Write => write(stdin, &mut line, profile),
+        Kind::Fetch => fetch(stdin, &mut line, profile),
+        Kind::Data => extract(stdin, &mut line, profile),
+    }
+    line.put(b"\n");
+    output::write(stdout, &line);
 }
 
 fn main(rt: HostRuntime) {
     let stdin = rt.stdin();
     let stdout = rt.stdout();
-    let count = input::number(stdin);
-    let mut i: usize = 0;
-    while i < count {
+    for _ in 0..input::number(stdin) {
         one(stdin, stdout);
-        i = i + 1;
     }
 }

@@ -19,242 +19,148 @@
 
 ghost use Rattle.std.specs.Prelude.{◌≤◌};
 
-use listing::text::{digits, put};
-use profile::{Answer, Parsed, Profile, Refusal};
-use solver::{Form, Solver};
+use decoder::prepared::Reading;
+use profile::{Profile, Refusal};
+use solver::Form;
 use stages::report::{Line, Report, Verdict};
 use std::io::{Stdin, Stdout};
 use test_support::{input, output, print, state};
 
-// Whether an output is as it was before.
-fn kept(out: &[u8]) -> bool {
-    let mut i: usize = 0;
-    while i < out.len() {
-        if out[i] != output::BEFORE {
-            return false;
-        }
-        i = i + 1;
+// What a case asks.
+#[derive(Clone, Copy)]
+struct Case<'a> {
+    profile: &'a [u8],
+    block: &'a [u8],
+    // the size of the output
+    size: usize,
+    // the last states are printed too
+    states: bool,
+    ghost room: { size ≤ 65536 },
+}
+
+fn refused(line: &mut print::Line, q: Refusal, out: &[u8]) {
+    print::number(line, usize::from(u8::from(q)));
+    if let Refusal::Unsettled(stage) = q {
+        print::number(line, usize::from(stage));
     }
-    true
-}
-
-fn number(line: &mut [u8], at: usize, q: Refusal) -> usize {
-    let end = print::number(line, at, profile::number(q) as usize);
-    match q {
-        Refusal::Unsettled(stage) => print::number(line, end, stage as usize),
-        _ => end,
-    }
-}
-
-fn trace(line: &mut [u8], at: usize, kept: bool) -> usize {
-    if kept {
-        return put(line, at, b" | kept\n");
-    }
-    put(line, at, b" | lost\n")
-}
-
-fn refused(stdout: Stdout, line: &mut [u8], q: Refusal, out: &[u8]) {
-    let end = number(line, 0, q);
-    let all = trace(line, end, kept(out));
-    output::write(stdout, line, all);
-}
-
-// How many of the eight lines are a subword's.
-fn subwords(p: Profile) -> usize
-    ensures { result ≤ 8 }
-{
-    if 8 < p.subwords {
-        return 8;
-    }
-    p.subwords as usize
-}
-
-// M with three numbers.
-fn corrected(line: &mut [u8], at: usize, count: u8, stage: u8, bits: u16) -> usize {
-    let mut end = put(line, at, b" M");
-    end = digits(line, end, count as usize);
-    end = put(line, end, b"/");
-    end = digits(line, end, stage as usize);
-    end = put(line, end, b"/");
-    digits(line, end, bits as usize)
+    let kept = out.iter().all(|x| *x == output::BEFORE);
+    let trace = if kept { " | kept" } else { " | lost" };
+    line.put(trace.as_bytes());
 }
 
 // C for a clean subword, else M with its count, its stage and its bits.
-fn verdict(line: &mut [u8], at: usize, l: Line) -> usize {
-    let bits = l.bits;
-    let v = l.verdict;
-    match v {
-        Verdict::Clean => put(line, at, b" C"),
-        Verdict::Corrected(count, stage) => corrected(line, at, count, stage, bits),
-    }
-}
-
-fn verdicts(line: &mut [u8], at: usize, p: Profile, all: [Line; 8]) -> usize {
-    let m = subwords(p);
-    let mut end = at;
-    let mut i: usize = 0;
-    while i < m {
-        end = verdict(line, end, all[i]);
-        i = i + 1;
-    }
-    end
-}
-
-// The whole state of a solver after r iterations.
-fn whole(line: &mut [u8], at: usize, r: usize, s: Solver) -> usize {
-    let mut end = state::polynomials(line, at, s);
-    end = put(line, end, b" |");
-    end = state::place(line, end, r, s.length());
-    state::held(line, end, s)
-}
-
-// The state of subword i, corrected at stage r: its solver went through all syndromes of that stage.
-fn last_state(stdout: Stdout, line: &mut [u8], p: Profile, i: usize, r: u8, l: Line) {
-    let s = l.solver;
-    let mut at = put(line, 0, b"state");
-    at = print::number(line, at, i);
-    at = whole(line, at, 2 * p.capability(r) as usize, s);
-    at = put(line, at, b"\n");
-    output::write(stdout, line, at);
-}
-
-fn state_of(stdout: Stdout, line: &mut [u8], p: Profile, i: usize, l: Line) {
-    let v = l.verdict;
-    if let Verdict::Corrected(_, r) = v {
-        last_state(stdout, line, p, i, r, l);
-    }
-}
-
-// A line for each corrected subword.
-fn state_lines(stdout: Stdout, line: &mut [u8], p: Profile, all: [Line; 8]) {
-    let m = subwords(p);
-    let mut i: usize = 0;
-    while i < m {
-        state_of(stdout, line, p, i, all[i]);
-        i = i + 1;
-    }
-}
-
-// The last stage, and how many symbols and bits were changed.
-fn counts(line: &mut [u8], last: u8, changed: u16, bits: u16) -> usize {
-    let mut at = put(line, 0, b" 0 |");
-    at = print::number(line, at, last as usize);
-    at = print::number(line, at, changed as usize);
-    at = print::number(line, at, bits as usize);
-    put(line, at, b" |")
-}
-
-fn show(
-    stdout: Stdout,
-    line: &mut [u8],
-    p: Profile,
-    block: &[u8],
-    out: &[u8],
-    r: Report,
-    states: bool,
-) {
-    let all = r.lines;
-    let mut at = counts(line, r.last, r.changed, r.bits);
-    at = verdicts(line, at, p, all);
-    at = put(line, at, b" |");
-    at = print::changes(line, at, block, out);
-    at = put(line, at, b"\n");
-    output::write(stdout, line, at);
-    if states {
-        state_lines(stdout, line, p, all);
-    }
-}
-
-fn accepted(
-    stdout: Stdout,
-    line: &mut [u8],
-    profile: &[u8],
-    block: &[u8],
-    out: &[u8],
-    r: Report,
-    states: bool,
-) {
-    match profile::questions::parse(profile) {
-        Parsed::Accepted(p) => show(stdout, line, p, block, out, r, states),
-        Parsed::Refused(_) => {
-            let end = put(line, 0, b" accepted with a refused profile\n");
-            output::write(stdout, line, end);
+fn verdict(line: &mut print::Line, l: Line) {
+    match l.verdict {
+        Verdict::Clean => line.put(b" C"),
+        Verdict::Corrected(count, stage) => {
+            line.put(b" M");
+            line.digits(usize::from(count));
+            line.put(b"/");
+            line.digits(usize::from(stage));
+            line.put(b"/");
+            line.digits(usize::from(l.bits));
         }
     }
 }
 
-fn read(
-    stdout: Stdout,
-    line: &mut [u8],
-    form: Form,
-    profile: &[u8],
-    block: &[u8],
-    out: &mut [u8],
-    states: bool,
-) {
-    let r = decoder::decode(profile, block, out, form);
-    let a = r.answer;
-    let report = r.report;
-    match a {
-        Answer::Accepted => accepted(stdout, line, profile, block, out, report, states),
-        Answer::Refused(q) => refused(stdout, line, q, out),
+// The last stage, how many symbols and bits were changed, the subwords, and what is other than in the block.
+fn accepted(line: &mut print::Line, p: Profile, block: &[u8], out: &[u8], r: Report) {
+    line.put(b" 0 |");
+    print::number(line, usize::from(r.last));
+    print::number(line, usize::from(r.changed));
+    print::number(line, usize::from(r.bits));
+    line.put(b" |");
+    for l in r.lines.iter().take(usize::from(p.subwords)) {
+        verdict(line, *l);
+    }
+    line.put(b" |");
+    print::changes(line, block, out);
+}
+
+// The state of subword i, corrected at stage r: its solver went through all syndromes of that stage.
+fn last_state(stdout: Stdout, p: Profile, i: usize, r: u8, l: Line) {
+    let s = l.solver;
+    let mut line = print::Line::new();
+    line.put(b"state");
+    print::number(&mut line, i);
+    state::polynomials(&mut line, s);
+    line.put(b" |");
+    state::place(&mut line, 2 * p.capability(r) as usize, s.length());
+    state::held(&mut line, s);
+    line.put(b"\n");
+    output::write(stdout, &line);
+}
+
+// A line for each corrected subword.
+fn last_states(stdout: Stdout, profile: &[u8], r: Reading) {
+    if let (Ok(()), Ok(p)) = (r.answer, profile::questions::parse(profile)) {
+        for (i, l) in r
+            .report
+            .lines
+            .iter()
+            .enumerate()
+            .take(usize::from(p.subwords))
+        {
+            if let Verdict::Corrected(_, r) = l.verdict {
+                last_state(stdout, p, i, r, *l);
+            }
+        }
     }
 }
 
-fn in_form(
-    stdout: Stdout,
-    line: &mut [u8],
-    form: Form,
-    profile: &[u8],
-    block: &[u8],
-    size: usize,
-    states: bool,
-)
-    requires { size ≤ 65536 }
-{
-    let end = state::name(line, 0, form);
-    output::write(stdout, line, end);
-    let mut out = output::bytes(size);
-    read(stdout, line, form, profile, block, &mut out[..size], states);
+// Reads the block in a form.
+fn read(stdout: Stdout, form: Form, c: &Case) {
+    let mut space = [output::BEFORE; input::MOST];
+    let out = &mut space[..c.size];
+    let r = decoder::decode(c.profile, c.block, out, form);
+    let mut line = print::Line::new();
+    line.put(state::name(form).as_bytes());
+    match (r.answer, profile::questions::parse(c.profile)) {
+        (Ok(()), Ok(p)) => accepted(&mut line, p, c.block, out, r.report),
+        (Ok(()), Err(_)) => line.put(b" accepted with a refused profile"),
+        (Err(q), _) => refused(&mut line, q, out),
+    }
+    line.put(b"\n");
+    output::write(stdout, &line);
+    if c.states {
+        last_states(stdout, c.profile, r);
+    }
 }
 
-fn title(stdout: Stdout, line: &mut [u8], profile: &[u8], n: usize, size: usize) {
-    let mut at = put(line, 0, b"case");
-    at = print::numbers(line, at, profile);
-    at = put(line, at, b" |");
-    at = print::number(line, at, n);
-    at = print::number(line, at, size);
-    at = put(line, at, b"\n");
-    output::write(stdout, line, at);
-}
-
-fn in_each(stdout: Stdout, line: &mut [u8], profile: &[u8], block: &[u8], size: usize, states: bool)
-    requires { size ≤ 65536 }
-{
-    title(stdout, line, profile, block.len(), size);
-    in_form(stdout, line, Form::Plain, profile, block, size, states);
-    in_form(stdout, line, Form::Lookahead, profile, block, size, states);
-    in_form(stdout, line, Form::Scaled, profile, block, size, states);
+fn title(stdout: Stdout, c: &Case) {
+    let mut line = print::Line::new();
+    line.put(b"case");
+    print::numbers(&mut line, c.profile);
+    line.put(b" |");
+    print::number(&mut line, c.block.len());
+    print::number(&mut line, c.size);
+    line.put(b"\n");
+    output::write(stdout, &line);
 }
 
 fn one(stdin: Stdin, stdout: Stdout) {
     let states = input::byte(stdin) == 1;
-    let k = input::byte(stdin);
+    let k = usize::from(input::byte(stdin));
     let profile = input::bytes(stdin, k);
     let n = input::number(stdin);
     let block = input::bytes(stdin, n);
     let size = input::number(stdin);
-    let mut line = input::buffer();
-    in_each(stdout, &mut line, &profile[..k], &block[..n], size, states);
+    let c = Case {
+        profile: profile.as_bytes(),
+        block: block.as_bytes(),
+        size,
+        states,
+    };
+    title(stdout, &c);
+    for form in [Form::Plain, Form::Lookahead, Form::Scaled] {
+        read(stdout, form, &c);
+    }
 }
 
 fn main(rt: HostRuntime) {
     let stdin = rt.stdin();
     let stdout = rt.stdout();
-    let count = input::number(stdin);
-    let mut i: usize = 0;
-    while i < count {
+    for _ in 0..input::number(stdin) {
         one(stdin, stdout);
-        i = i + 1;
     }
 }

@@ -5,7 +5,7 @@
 #![tactic(auto)]
 
 use field::{Exponent, Gf};
-use kernel::halves;
+use kernel::Multiplier;
 use kernel::halves::Halves;
 use std::io;
 
@@ -22,71 +22,49 @@ fn byte(n: usize) -> u8 {
     (n % 256) as u8
 }
 
-fn by_halves(c: Gf, x: Gf) -> Gf {
-    let h = Halves::split(c);
-    h.times(x)
-}
-
 // The product as a symbol of a word that is multiplied.
-fn by_word(c: Gf, x: Gf) -> Gf {
-    let h = Halves::split(c);
-    let mut word = [x.0; 2];
-    halves::scale(&h.low, &h.high, &mut word);
-    Gf(word[1])
+fn by_word(h: &Halves, x: u8) -> u8 {
+    let mut word = [x; 2];
+    kernel::scale(h, &mut word);
+    word[1]
 }
 
 // The product as a symbol of a word to which a multiple is added.
-fn by_sum(c: Gf, x: Gf) -> Gf {
-    let h = Halves::split(c);
-    let from = [x.0; 2];
+fn by_sum(h: &Halves, x: u8) -> u8 {
     let mut to = [0u8; 2];
-    halves::add_multiple(&h.low, &h.high, &from, &mut to);
-    Gf(to[1])
+    kernel::add_scaled(h, &[x; 2], &mut to);
+    to[1]
 }
 
 // The product as the value of x z at c.
-fn by_value(c: Gf, x: Gf) -> Gf {
-    let h = Halves::split(c);
-    let word = [0, x.0];
-    halves::value(&h.low, &h.high, &word)
+fn by_value(h: &Halves, x: u8) -> u8 {
+    kernel::value(h, &[0, x]).0
 }
 
 // The product as a coefficient of a polynomial.
-fn by_polynomial(c: Gf, x: Gf) -> Gf {
-    let f = polynomial::halves::scale(c, [x; polynomial::COEFFICIENTS]);
-    f[1]
+fn by_polynomial(c: Gf, x: u8) -> u8 {
+    polynomial::halves::scale(c, [Gf(x); polynomial::COEFFICIENTS])[1].0
 }
 
-fn by_lent(way: usize, c: Gf, x: Gf) -> Gf {
-    if way == 0 {
-        return by_word(c, x);
+// The product by tables that are lent: the loops take turns.
+fn by_lent(turn: usize, c: Gf, x: u8) -> u8 {
+    let h = Halves::split(c);
+    match turn % 4 {
+        0 => by_word(&h, x),
+        1 => by_sum(&h, x),
+        2 => by_value(&h, x),
+        _ => by_polynomial(c, x),
     }
-    if way == 1 {
-        return by_sum(c, x);
-    }
-    if way == 2 {
-        return by_value(c, x);
-    }
-    by_polynomial(c, x)
 }
 
 // Number i of a line before the products.
 fn heading(line: usize, i: usize) -> u8 {
-    if line == 0 {
-        let named = Gf::named();
-        let r = named[i % 3];
-        return r.0;
+    match line {
+        0 => Gf::named()[i % 3].0,
+        1 => byte(Gf(byte(i)).log().0),
+        2 => Exponent(i).power().0,
+        _ => Gf(byte(i % 255 + 1)).inverse().0,
     }
-    if line == 1 {
-        let k = Gf(byte(i)).log();
-        return byte(k.0);
-    }
-    if line == 2 {
-        let r = Exponent(i).power();
-        return r.0;
-    }
-    let r = Gf(byte(i % 255 + 1)).inverse();
-    r.0
 }
 
 // Number i of a line.
@@ -95,18 +73,14 @@ fn cell(line: usize, i: usize) -> u8 {
         return heading(line, i);
     }
     let c = Gf(byte(line - BY_LOGARITHMS));
-    let x = Gf(byte(i));
+    let x = byte(i);
     if line < BY_HALVES {
-        let r = c.product(x);
-        return r.0;
+        return c.product(Gf(x)).0;
     }
     if line < LENT {
-        let r = by_halves(c, x);
-        return r.0;
+        return Halves::split(c).times(x);
     }
-    let way = (line % 4 + i % 4) % 4;
-    let r = by_lent(way, c, x);
-    r.0
+    by_lent(line % 4 + i % 4, c, x)
 }
 
 fn print(rt: HostRuntime, n: u8, after: &str) -> io::Result<()> {
@@ -115,27 +89,24 @@ fn print(rt: HostRuntime, n: u8, after: &str) -> io::Result<()> {
 
 // The last index of a line.
 fn end(line: usize) -> usize {
-    if line == 0 {
-        return 2;
+    match line {
+        0 => 2,
+        2 | 3 => 254,
+        _ => 255,
     }
-    if line == 2 || line == 3 { 254 } else { 255 }
 }
 
 fn print_line(rt: HostRuntime, line: usize) -> io::Result<()> {
     let last = end(line);
-    let mut i: usize = 0;
-    while i < last {
+    for i in 0..last {
         print(rt, cell(line, i), " ")?;
-        i = i + 1;
     }
     print(rt, cell(line, last), "\n")
 }
 
 fn main(rt: HostRuntime) -> io::Result<()> {
-    let mut line: usize = 0;
-    while line < LINES {
+    for line in 0..LINES {
         print_line(rt, line)?;
-        line = line + 1;
     }
     Ok(())
 }

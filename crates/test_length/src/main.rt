@@ -5,60 +5,44 @@
 // number of rounds, one with the number of syndromes, the rounds' lengths, the syndromes.
 #![tactic(auto)]
 
-use listing::text::put;
 use solver::Form;
 use std::io::{Stdin, Stdout};
 use test_support::{input, output, print, state};
 
 // One list of rounds in one form, at so many points: before its first event, and after each.
-fn one(
-    stdout: Stdout,
-    line: &mut [u8],
-    form: Form,
-    syndromes: &[u8],
-    lengths: &[u8],
-    points: usize,
-) {
-    let mut at = state::name(line, 0, form);
-    let mut e: usize = 0;
-    while e < points {
+fn one(stdout: Stdout, form: Form, syndromes: &[u8], lengths: &[u8], points: usize) {
+    let mut line = print::Line::new();
+    line.put(state::name(form).as_bytes());
+    for e in 0..points {
         let l = solver::rounds::linear_complexity(form, syndromes, lengths, e);
-        at = print::number(line, at, l as usize);
-        e = e + 1;
+        print::number(&mut line, usize::from(l));
     }
-    at = put(line, at, b"\n");
-    output::write(stdout, line, at);
+    line.put(b"\n");
+    output::write(stdout, &line);
 }
 
 // The next list of rounds, in each form.
 fn list(stdin: Stdin, stdout: Stdout) {
-    let mut line = input::buffer();
-    let rounds = input::byte(stdin);
-    let total = input::byte(stdin);
-    let space = input::bytes(stdin, rounds);
-    let lengths = &space[..rounds];
-    let more = input::bytes(stdin, total);
-    let syndromes = &more[..total];
+    let rounds = usize::from(input::byte(stdin));
+    let total = usize::from(input::byte(stdin));
+    let lengths = input::bytes(stdin, rounds);
+    let syndromes = input::bytes(stdin, total);
     let points = rounds + total + 1;
-    one(stdout, &mut line, Form::Plain, syndromes, lengths, points);
-    one(
-        stdout,
-        &mut line,
-        Form::Lookahead,
-        syndromes,
-        lengths,
-        points,
-    );
-    one(stdout, &mut line, Form::Scaled, syndromes, lengths, points);
+    for form in [Form::Plain, Form::Lookahead, Form::Scaled] {
+        one(
+            stdout,
+            form,
+            syndromes.as_bytes(),
+            lengths.as_bytes(),
+            points,
+        );
+    }
 }
 
 fn main(rt: HostRuntime) {
     let stdin = rt.stdin();
     let stdout = rt.stdout();
-    let lists = input::number(stdin);
-    let mut i: usize = 0;
-    while i < lists {
+    for _ in 0..input::number(stdin) {
         list(stdin, stdout);
-        i = i + 1;
     }
 }

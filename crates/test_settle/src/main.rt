@@ -8,19 +8,15 @@
 // A case on standard input is a byte with t, one with n, one with f, and 2t syndromes. The first root is α^f.
 #![tactic(auto)]
 
-ghost use Rattle.std.specs.Prelude.{◌≤◌, ◌<◌, length};
+ghost use Rattle.std.specs.Prelude.{◌≤◌, length};
 
-use field::Gf;
-use kernel::index;
-use listing::text::put;
-use profile::POSITIONS;
 use settle::Settled;
 use solver::Form;
 use std::io::Stdout;
 use test_support::{input, output, print, state};
 
 // The syndromes are one round: its entry and an iteration for each.
-fn settle(form: Form, syndromes: &[u8], n: usize, t: usize, first: u8) -> Settled
+fn settle(form: Form, syndromes: &[u8], n: usize, t: usize, first: u8) -> Option<Settled>
     requires { (length syndromes.now ≤ 48) × (n ≤ 255) × (t ≤ 24) }
 {
     let m = syndromes.len();
@@ -37,92 +33,56 @@ fn settle(form: Form, syndromes: &[u8], n: usize, t: usize, first: u8) -> Settle
     )
 }
 
-fn change(line: &mut [u8], at: usize, position: usize, y: Gf) -> usize {
-    if y.is_zero() {
-        return at;
+// How many symbols change, and the positions that do, each with its change.
+fn settled(line: &mut print::Line, r: Settled) {
+    line.put(b" | settled");
+    print::number(line, usize::from(r.count));
+    line.put(b" |");
+    for (i, y) in r.pattern.iter().enumerate() {
+        if !y.is_zero() {
+            print::number(line, i);
+            print::number(line, usize::from(y.0));
+        }
     }
-    let end = print::number(line, at, position);
-    print::number(line, end, index(y.0))
 }
 
-// The positions that change, each with its change.
-fn changes(line: &mut [u8], at: usize, pattern: [Gf; POSITIONS]) -> usize {
-    let mut end = at;
-    let mut i: usize = 0;
-    while i < POSITIONS {
-        end = change(line, end, i, pattern[i]);
-        i = i + 1;
-    }
-    end
-}
-
-fn outcome(line: &mut [u8], at: usize, found: bool) -> usize {
-    if found {
-        return put(line, at, b" | settled");
-    }
-    put(line, at, b" | failed")
-}
-
-// Ends a line with what came out.
-fn show(stdout: Stdout, line: &mut [u8], at: usize, r: Settled) {
-    let pattern = r.pattern;
-    let mut end = outcome(line, at, r.found);
-    end = print::number(line, end, r.count as usize);
-    end = put(line, end, b" |");
-    end = changes(line, end, pattern);
-    end = put(line, end, b"\n");
-    output::write(stdout, line, end);
-}
-
-fn one(stdout: Stdout, line: &mut [u8], form: Form, syndromes: &[u8], n: usize, t: usize, first: u8)
+fn one(stdout: Stdout, form: Form, syndromes: &[u8], n: usize, t: usize, first: u8)
     requires { (length syndromes.now ≤ 48) × (n ≤ 255) × (t ≤ 24) }
 {
-    let mut at = state::name(line, 0, form);
-    at = put(line, at, b" |");
-    at = print::number(line, at, t);
-    at = print::number(line, at, n);
-    at = print::number(line, at, index(first));
-    show(stdout, line, at, settle(form, syndromes, n, t, first));
+    let mut line = print::Line::new();
+    line.put(state::name(form).as_bytes());
+    line.put(b" |");
+    print::number(&mut line, t);
+    print::number(&mut line, n);
+    print::number(&mut line, usize::from(first));
+    match settle(form, syndromes, n, t, first) {
+        Some(r) => settled(&mut line, r),
+        None => line.put(b" | failed 0 |"),
+    }
+    line.put(b"\n");
+    output::write(stdout, &line);
 }
 
-// The case at a place, in each form, and where the next one is: the end, where the case is not whole.
-fn next(stdout: Stdout, line: &mut [u8], input: &[u8], at: usize) -> usize
-    requires { at < length input.now }
-    ensures { at < result }
-{
-    let end = input.len();
-    if end - at < 3 {
-        return end;
-    }
-    let t = index(input[at]);
-    let n = index(input[at + 1]);
-    let first = input[at + 2];
-    if 24 < t {
-        return end;
-    }
-    let a = at + 3;
-    let b = a + 2 * t;
-    if end < b {
-        return end;
-    }
-    let syndromes = &input[a..b];
-    one(stdout, line, Form::Plain, syndromes, n, t, first);
-    one(stdout, line, Form::Lookahead, syndromes, n, t, first);
-    one(stdout, line, Form::Scaled, syndromes, n, t, first);
-    b
-}
-
-// The cases of the input, one after the other.
-fn all(stdout: Stdout, line: &mut [u8], input: &[u8]) {
-    let mut at: usize = 0;
-    while at < input.len() {
-        at = next(stdout, line, input, at);
+// The cases, one after the other, each in each form, as far as they are whole.
+fn all(stdout: Stdout, cases: &[u8]) {
+    let mut left = cases;
+    while let [t, n, first, rest @ ..] = left {
+        let t = usize::from(*t);
+        if t > 24 {
+            return;
+        }
+        let Some((syndromes, rest)) = rest.split_at_checked(2 * t) else {
+            return;
+        };
+        for form in [Form::Plain, Form::Lookahead, Form::Scaled] {
+            one(stdout, form, syndromes, usize::from(*n), t, *first);
+        }
+        left = rest;
     }
 }
 
 fn main(rt: HostRuntime) {
-    let mut space = input::large_buffer();
-    let mut line = input::buffer();
+    let mut space = [0; input::MOST];
     let n = input::fill(rt.stdin(), &mut space);
-    all(rt.stdout(), &mut line, &space[..n]);
+    all(rt.stdout(), &space[..n]);
 }

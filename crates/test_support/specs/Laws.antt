@@ -2,24 +2,24 @@
 --
 -- Proved: a loop that appends the texts of `each` begins by each_none and goes on by each_more; what `top` is where a
 -- coefficient is zero (top_below) and where it is not (top-here), and that it is no more than it looks at (top_least).
-use Rattle.std.specs.Prelude.{ℕ, zero, suc, ◌+◌, ◌-◌, ◌≤◌, ◌<◌, ◌≡◌, refl, List, []}
+use Rattle.std.specs.Prelude.{ℕ, zero, suc, ◌+◌, ◌-◌, ◌≤◌, ◌<◌, ◌≡◌, refl, List}
 use Rattle.std.proofs.Common.{sym, ap, ◌∙◌, arith, eq-eqb, ne_eqb}
 use Rattle.std.proofs.Math.Logic.{by_cases}
 use Rattle.std.proofs.Math.Decide.{ℕ_discrete}
 use Rattle.field.specs.declared.Gf.{Gf}
 use Rattle.listing.specs.Definition.{Appended}
-use Rattle.listing.specs.Laws.{appended_then}
+use Rattle.listing.specs.Laws.{appended-none, appended_then}
 use Rattle.test_support.specs.Text.{each}
 use Rattle.test_support.specs.State.{at, top}
 
 -- none of the texts
-pub each_none : {a e : ℕ} {l m : List ℕ} (f : ℕ → List ℕ) → Appended a [] l e m → Appended a (each f 0) l e m
+pub each_none : (n : ℕ) (f : ℕ → List ℕ) (s : List ℕ) → Appended n (each f 0) s s
 unfolding each
-each_none f p = p
+each_none n f s = appended-none n s
 
 -- one more of the texts
-pub each_more : {a e b : ℕ} {l m k : List ℕ} (f : ℕ → List ℕ) (i : ℕ) → Appended a (each f i) l e m
-    → Appended e (f i) m b k → Appended a (each f (i + 1)) l b k
+pub each_more : {n : ℕ} {s t u : List ℕ} (f : ℕ → List ℕ) (i : ℕ) → Appended n (each f i) s t → Appended n (f i) t u
+    → Appended n (each f (i + 1)) s u
 unfolding each
 each_more f i p q =
     let next : suc i ≡ i + 1 = omega arith in

@@ -16,6 +16,7 @@ use Rattle.field.specs.declared.Gf.{Gf}
 use Rattle.solver.specs.declared.Form.{Form}
 use Rattle.solver.specs.declared.Form.TheVariants.{Plain, Lookahead, Scaled}
 use Rattle.solver.specs.declared.Solver.{Solver}
+use Rattle.solver.specs.declared.Solver.TheVariants.{Plain as in-plain, Lookahead as in-lookahead, Scaled as in-scaled}
 use Rattle.solver.specs.declared.lookahead.Lookahead.{Lookahead as Lookahead-state}
 use Rattle.solver.specs.declared.scaled.Scaled.{Scaled as Scaled-state}
 use Rattle.listing.specs.Definition.{ascii}
@@ -42,14 +43,10 @@ polynomial_text f = ascii " |" ++ each (coefficient_text f) (suc (top f 48))
 unfoldable pub part_text : List Gf → List Gf → List ℕ → List ℕ
 part_text f g s = polynomial_text f ++ polynomial_text g ++ ascii " |" ++ numbers_text s
 
--- Λ, B and γ in a named form
-abbrev pub polynomials_in : Form → Solver → List ℕ
-polynomials_in Plain s = part_text s.plain.locator s.plain.auxiliary (s.plain.gamma.0 ∷ [])
-polynomials_in Lookahead s = part_text s.lookahead.locator s.lookahead.auxiliary (s.lookahead.gamma.0 ∷ [])
-polynomials_in Scaled s = part_text s.scaled.locator s.scaled.auxiliary (s.scaled.gamma.0 ∷ [])
-
 abbrev pub polynomials_text : Solver → List ℕ
-polynomials_text s = polynomials_in s.form s
+polynomials_text (in-plain p) = part_text p.locator p.auxiliary (p.gamma.0 ∷ [])
+polynomials_text (in-lookahead p) = part_text p.locator p.auxiliary (p.gamma.0 ∷ [])
+polynomials_text (in-scaled p) = part_text p.locator p.auxiliary (p.gamma.0 ∷ [])
 
 abbrev pub lookahead_scalars : Lookahead-state → List ℕ
 lookahead_scalars p =
@@ -58,14 +55,10 @@ lookahead_scalars p =
 abbrev pub scaled_scalars : Scaled-state → List ℕ
 scaled_scalars p = p.ratio.0 ∷ p.rho.0 ∷ p.xi.0 ∷ p.rho_s.0 ∷ p.xi_s.0 ∷ []
 
--- Δ, Θ and the held scalars in a named form
-abbrev pub held_in : Form → Solver → List ℕ
-held_in Plain s = []
-held_in Lookahead s = part_text s.lookahead.delta s.lookahead.theta (lookahead_scalars s.lookahead)
-held_in Scaled s = part_text s.scaled.delta s.scaled.theta (scaled_scalars s.scaled)
-
 abbrev pub held_text : Solver → List ℕ
-held_text s = held_in s.form s
+held_text (in-plain p) = []
+held_text (in-lookahead p) = part_text p.delta p.theta (lookahead_scalars p)
+held_text (in-scaled p) = part_text p.delta p.theta (scaled_scalars p)
 
 abbrev pub place_text : ℕ → ℕ → List ℕ
 place_text r l = difference_text r (2 * l) ++ number_text l

@@ -7,39 +7,26 @@ ghost use Rattle.polynomial.specs.Polynomial.{row as Row};
 ghost use Rattle.stream.specs.Definition.{IsPrefixLen};
 
 use field::Gf;
-use kernel::index;
+use listing::text::Text;
 use polynomial::SYNDROMES;
 use std::io::Stdin;
+use stream::Stream;
 
-// An array for a line, all zeros.
-pub fn buffer() -> [u8; 4096]
-    ensures { 4096 ≡ length result }
-{
-    [0u8; 4096]
-}
-
-// An array for what comes, all zeros.
-pub fn large_buffer() -> [u8; 65536]
-    ensures { 65536 ≡ length result }
-{
-    [0u8; 65536]
-}
+// The most bytes that are read at once.
+pub const MOST: usize = 65536;
 
 // Fills an array, as far as bytes come, and answers how many did.
 pub fn fill(stdin: Stdin, to: &mut [u8]) -> usize
     ensures { IsPrefixLen result to.new }
 {
-    let got = stream::fill(stream::open(), stdin, to);
-    got.size
+    Stream::open().fill(stdin, to)
 }
 
 // The next byte.
-pub fn byte(stdin: Stdin) -> usize
-    ensures { result < 256 }
-{
-    let mut space = [0u8; 1];
+pub fn byte(stdin: Stdin) -> u8 {
+    let mut space = [0; 1];
     fill(stdin, &mut space);
-    index(space[0])
+    space[0]
 }
 
 // A number of two bytes, high byte first.
@@ -47,27 +34,27 @@ pub fn number(stdin: Stdin) -> usize
     ensures { result < 65536 }
 {
     let high = byte(stdin);
-    256 * high + byte(stdin)
+    usize::from(u16::from_be_bytes([high, byte(stdin)]))
 }
 
-// The next n bytes, and zeros.
-pub fn bytes(stdin: Stdin, n: usize) -> [u8; 65536]
+// The next n bytes, and zeros where they end before.
+pub fn bytes(stdin: Stdin, n: usize) -> Text<MOST>
     requires { n ≤ 65536 }
-    ensures { IsPrefixLen n result }
+    ensures { length result ≡ n }
 {
-    let mut space = large_buffer();
-    fill(stdin, &mut space[..n]);
-    space
+    let mut space = [0; MOST];
+    let room = &mut space[..n];
+    fill(stdin, room);
+    let mut read = Text::new();
+    read.put(room);
+    read
 }
 
 // Byte i of a word, and 0 past its end.
 fn at(word: &[u8], i: usize) -> u8
     ensures { of result ≡ Bytes word.now i }
 {
-    if i < word.len() {
-        return word[i];
-    }
-    0
+    word.get(i).copied().unwrap_or(0)
 }
 
 // A row of the first 48 bytes of a word, then zeros.
@@ -75,10 +62,8 @@ pub fn row(word: &[u8]) -> [Gf; SYNDROMES]
     ensures { Row result ≡ cut 48 (Bytes word.now) }
 {
     let mut s = [Gf::ZERO; SYNDROMES];
-    let mut i: usize = 0;
-    while i < SYNDROMES {
+    for i in 0..SYNDROMES {
         s[i] = Gf(at(word, i));
-        i = i + 1;
     }
     s
 }

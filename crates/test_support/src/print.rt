@@ -1,67 +1,56 @@
-// The fields of a line: each function appends a text to the first bytes of an array that is lent, as far as it has
-// room, and answers where the text ends. What the promises speak of stands in specs/Text.antt.
+// The fields of a line: each function appends a text to a line, as far as it has room. What the promises speak of
+// stands in specs/Text.antt.
 ghost use Rattle.listing.specs.Definition.{Appended};
 ghost use Rattle.test_support.specs.Text.{number_text, difference_text, numbers_text};
 ghost use Rattle.test_support.specs.Text.{change_text, changes_text};
 
-use kernel::index;
-use listing::text::{digits, put, within};
+use listing::text::Text;
+
+// Room for what most programs print in a line.
+pub type Line = Text<4096>;
 
 // A number after a space.
-pub fn number(to: &mut [u8], at: usize, n: usize) -> usize
-    ensures { Appended at (number_text n) to.old result to.new }
+pub fn number<const N: usize>(line: &mut Text<N>, n: usize)
+    ensures { Appended N (number_text n) line.old line.new }
 {
-    let end = put(to, at, b" ");
-    digits(to, end, n)
+    line.put(b" ");
+    line.digits(n);
 }
 
 // The difference a - b after a space.
-pub fn difference(to: &mut [u8], at: usize, a: usize, b: usize) -> usize
-    ensures { Appended at (difference_text a b) to.old result to.new }
+pub fn difference<const N: usize>(line: &mut Text<N>, a: usize, b: usize)
+    ensures { Appended N (difference_text a b) line.old line.new }
 {
     if b <= a {
-        return number(to, at, a - b);
+        return number(line, a - b);
     }
-    let end = put(to, at, b" -");
-    digits(to, end, b - a)
+    line.put(b" -");
+    line.digits(b - a);
 }
 
 // The bytes of s as numbers, each after a space.
-pub fn numbers(to: &mut [u8], at: usize, s: &[u8]) -> usize
-    ensures { Appended at (numbers_text s.now) to.old result to.new }
+pub fn numbers<const N: usize>(line: &mut Text<N>, s: &[u8])
+    ensures { Appended N (numbers_text s.now) line.old line.new }
 {
-    let mut end = within(to, at);
-    let mut i: usize = 0;
-    while i < s.len() {
-        end = number(to, end, index(s[i]));
-        i = i + 1;
+    for x in s {
+        number(line, usize::from(*x));
     }
-    end
 }
 
-fn change(to: &mut [u8], at: usize, position: usize, x: u8, y: u8) -> usize
-    ensures { Appended at (change_text position x y) to.old result to.new }
+fn change<const N: usize>(line: &mut Text<N>, position: usize, x: u8, y: u8)
+    ensures { Appended N (change_text position x y) line.old line.new }
 {
-    if x == y {
-        return within(to, at);
+    if x != y {
+        number(line, position);
+        number(line, usize::from(y));
     }
-    let end = number(to, at, position);
-    number(to, end, index(y))
 }
 
 // The positions where y differs from x, each with y's byte.
-pub fn changes(to: &mut [u8], at: usize, x: &[u8], y: &[u8]) -> usize
-    ensures { Appended at (changes_text x.now y.now) to.old result
-        to.new }
+pub fn changes<const N: usize>(line: &mut Text<N>, x: &[u8], y: &[u8])
+    ensures { Appended N (changes_text x.now y.now) line.old line.new }
 {
-    let mut end = within(to, at);
-    let mut i: usize = 0;
-    while i < y.len() {
-        if x.len() <= i {
-            return end;
-        }
-        end = change(to, end, i, x[i], y[i]);
-        i = i + 1;
+    for i in 0..x.len().min(y.len()) {
+        change(line, i, x[i], y[i]);
     }
-    end
 }

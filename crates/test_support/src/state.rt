@@ -9,24 +9,20 @@ ghost use Rattle.test_support.specs.State.{lookahead_scalars, scaled_scalars};
 
 use crate::print::{difference, number, numbers};
 use field::Gf;
-use kernel::index;
-use listing::text::{put, within};
+use listing::text::Text;
 use polynomial::COEFFICIENTS;
 use solver::lookahead::Lookahead;
 use solver::scaled::Scaled;
 use solver::{Form, Solver};
 
-// The highest degree.
-const DEGREE: usize = COEFFICIENTS - 1;
-
 // The name of a form.
-pub fn name(to: &mut [u8], at: usize, form: Form) -> usize
-    ensures { Appended at (name_text form) to.old result to.new }
+pub fn name(form: Form) -> &'static str
+    ensures { result.now ≡ name_text form }
 {
     match form {
-        Form::Plain => put(to, at, b"plain"),
-        Form::Lookahead => put(to, at, b"lookahead"),
-        Form::Scaled => put(to, at, b"scaled"),
+        Form::Plain => "plain",
+        Form::Lookahead => "lookahead",
+        Form::Scaled => "scaled",
     }
 }
 
@@ -34,96 +30,72 @@ pub fn name(to: &mut [u8], at: usize, form: Form) -> usize
 fn degree(f: [Gf; COEFFICIENTS]) -> usize
     ensures { result ≡ top f 48 }
 {
-    let mut n: usize = DEGREE;
-    while 0 < n {
-        let x = f[n];
-        if x.0 != 0 {
+    for n in (1..COEFFICIENTS).rev() {
+        if f[n].0 != 0 {
             return n;
         }
-        n = n - 1;
     }
     0
 }
 
 // A symbol, as a number after a space.
-fn value(to: &mut [u8], at: usize, x: Gf) -> usize
-    ensures { Appended at (number_text x.0) to.old result to.new }
+fn value<const N: usize>(line: &mut Text<N>, x: Gf)
+    ensures { Appended N (number_text x.0) line.old line.new }
 {
-    number(to, at, index(x.0))
+    number(line, usize::from(x.0));
 }
 
 // The coefficients of a polynomial up to its degree.
-fn polynomial(to: &mut [u8], at: usize, f: [Gf; COEFFICIENTS]) -> usize
-    ensures { Appended at (polynomial_text f) to.old result to.new }
+fn polynomial<const N: usize>(line: &mut Text<N>, f: [Gf; COEFFICIENTS])
+    ensures { Appended N (polynomial_text f) line.old line.new }
 {
     let n = degree(f) + 1;
-    let mut end = put(to, at, b" |");
-    let mut i: usize = 0;
-    while i < n {
-        end = value(to, end, f[i]);
-        i = i + 1;
+    line.put(b" |");
+    for i in 0..n {
+        value(line, f[i]);
     }
-    end
 }
 
 // Two polynomials and scalars.
-fn part(
-    to: &mut [u8],
-    at: usize,
+fn part<const N: usize>(
+    line: &mut Text<N>,
     f: [Gf; COEFFICIENTS],
     g: [Gf; COEFFICIENTS],
     scalars: &[u8],
-) -> usize
-    ensures { Appended at (part_text f g scalars.now) to.old result to.new }
+)
+    ensures { Appended N (part_text f g scalars.now) line.old line.new }
 {
-    let mut end = polynomial(to, at, f);
-    end = polynomial(to, end, g);
-    end = put(to, end, b" |");
-    numbers(to, end, scalars)
+    polynomial(line, f);
+    polynomial(line, g);
+    line.put(b" |");
+    numbers(line, scalars);
 }
 
 // Two polynomials and one scalar.
-fn key(to: &mut [u8], at: usize, f: [Gf; COEFFICIENTS], b: [Gf; COEFFICIENTS], gamma: Gf) -> usize
-    ensures { Appended at (part_text f b (gamma.0 ∷ [])) to.old result to.new }
+fn key<const N: usize>(line: &mut Text<N>, f: [Gf; COEFFICIENTS], b: [Gf; COEFFICIENTS], gamma: Gf)
+    ensures { Appended N (part_text f b (gamma.0 ∷ [])) line.old line.new }
 {
-    let scalars = [gamma.0];
-    part(to, at, f, b, &scalars)
+    part(line, f, b, &[gamma.0]);
 }
 
 // Λ, B and γ.
-pub fn polynomials(to: &mut [u8], at: usize, s: Solver) -> usize
-    ensures { Appended at (polynomials_text s) to.old result to.new }
+pub fn polynomials<const N: usize>(line: &mut Text<N>, s: Solver)
+    ensures { Appended N (polynomials_text s) line.old line.new }
 {
-    let form = s.form;
-    let p = s.plain;
-    let l = s.lookahead;
-    let c = s.scaled;
-    match form {
-        Form::Plain => {
-            let f = p.locator;
-            let b = p.auxiliary;
-            key(to, at, f, b, p.gamma)
-        }
-        Form::Lookahead => {
-            let f = l.locator;
-            let b = l.auxiliary;
-            key(to, at, f, b, l.gamma)
-        }
-        Form::Scaled => {
-            let f = c.locator;
-            let b = c.auxiliary;
-            key(to, at, f, b, c.gamma)
-        }
+    match s {
+        Solver::Plain(p) => key(line, p.locator, p.auxiliary, p.gamma),
+        Solver::Lookahead(p) => key(line, p.locator, p.auxiliary, p.gamma),
+        Solver::Scaled(p) => key(line, p.locator, p.auxiliary, p.gamma),
     }
 }
 
 // k and L, of a solver of that length: after r iterations k is r - 2L.
-pub fn place(to: &mut [u8], at: usize, r: usize, length: u16) -> usize
-    ensures { Appended at (place_text r length) to.old result to.new }
+pub fn place<const N: usize>(line: &mut Text<N>, r: usize, length: u16)
+    ensures { Appended N (place_text r length) line.old line.new }
 {
-    let l = length as usize;
-    let end = difference(to, at, r, 2 * l);
-    number(to, end, l)
+    let l = usize::from(length);
+    difference(line, r, 2 * l);
+    number(line, l);
 }
 
 // The scalars that the lookahead form holds.
@@ -149,25 +121,12 @@ pub fn scaled_scalars(p: Scaled) -> [u8; 5]
 }
 
 // Δ, Θ and the held scalars; nothing in the plain form, which has none.
-pub fn held(to: &mut [u8], at: usize, s: Solver) -> usize
-    ensures { Appended at (held_text s) to.old result to.new }
+pub fn held<const N: usize>(line: &mut Text<N>, s: Solver)
+    ensures { Appended N (held_text s) line.old line.new }
 {
-    let form = s.form;
-    let l = s.lookahead;
-    let c = s.scaled;
-    match form {
-        Form::Plain => within(to, at),
-        Form::Lookahead => {
-            let d = l.delta;
-            let t = l.theta;
-            let scalars = lookahead_scalars(l);
-            part(to, at, d, t, &scalars)
-        }
-        Form::Scaled => {
-            let d = c.delta;
-            let t = c.theta;
-            let scalars = scaled_scalars(c);
-            part(to, at, d, t, &scalars)
-        }
+    match s {
+        Solver::Plain(_) => {}
+        Solver::Lookahead(p) => part(line, p.delta, p.theta, &lookahead_scalars(p)),
+        Solver::Scaled(p) => part(line, p.delta, p.theta, &scaled_scalars(p)),
     }
 }

@@ -16,7 +16,7 @@
 -- byte, whatever the profile is that a reader accepts (round_trip), so those that `encode` writes (trip). Two readings
 -- of the same bytes end alike (both). Both ways to the value of an error, from the state that a report holds, give what
 -- was changed (sum_of).
-use Rattle.std.specs.Prelude.{ℕ, zero, suc, ◌+◌, ◌*◌, ◌<◌, ◌≡◌, refl, ◌≢◌, List, [], ◌∷◌, map, length, get_or}
+use Rattle.std.specs.Prelude.{ℕ, zero, suc, ◌+◌, ◌*◌, ◌<◌, ◌≡◌, refl, ◌≢◌, List, [], ◌∷◌, map, length, get_or, Ok, Err}
 use Rattle.std.proofs.Common.{sym, ap, ◌∙◌, subst, arith}
 use Rattle.std.proofs.lemmas.List.{length-map}
 use Rattle.field.specs.Field.{F, ◌⊕◌, ⊕-equal, of, byte, byte_lt, val}
@@ -24,11 +24,8 @@ use Rattle.series.specs.Series.{Series, ⊞-at}
 use Rattle.series.specs.Shift.{cut, cut_low}
 use Rattle.series.specs.Array.{bytes, bytes-entry, bytes_word, word_bytes}
 use Rattle.profile.specs.declared.Profile.{Profile}
-use Rattle.profile.specs.declared.Parsed.{Parsed}
-use Rattle.profile.specs.declared.Parsed.TheVariants.{Accepted, Refused}
-use Rattle.profile.specs.declared.Answer.TheVariants as answer
 use Rattle.profile.specs.declared.questions.Caller.TheVariants.{Encoder, Card}
-use Rattle.profile.specs.Definition.{capability, first-root, answer_of, block_size, data_size}
+use Rattle.profile.specs.Definition.{Parsed, capability, first-root, answer_of, block_size, data_size}
 use Rattle.profile.specs.Questions.{profile_of, writing}
 use Rattle.profile.specs.QuestionsLaws.{admitted-profile}
 use Rattle.profile.specs.Valid.{Valid, Rising, admitted-valid, capability-most, writing-passed, writing-rising}
@@ -71,7 +68,7 @@ small_word (x ∷ w) zero = byte_lt x
 small_word (x ∷ w) (suc i) = small_word w i
 
 -- what `encode` writes wherever it accepts
-pub written_one : (p : Profile) (b d o : List ℕ) → Bytes b → writing b (length d) (length o) ≡ Accepted p
+pub written_one : (p : Profile) (b d o : List ℕ) → Bytes b → writing b (length d) (length o) ≡ Ok p
     → Valid p × Rising p × (length d ≡ data_size p) × Written p d (written (writing b (length d) (length o)) d o)
 written_one p b d o small is =
     let ok = admitted-valid Encoder b (length d) (length o) 0 p is (omega (arith, small 2)) in
@@ -93,9 +90,9 @@ written_one p b d o small is =
 -- ---- the round trip
 
 -- c is what was written, whoever wrote it and when; y is what was received, in whatever form it is read
-pub round_trip : (p : Profile) (b d c y e : List ℕ) → Valid p → profile_of b ≡ Accepted p → length d ≡ data_size p
+pub round_trip : (p : Profile) (b d c y e : List ℕ) → Valid p → profile_of b ≡ Ok p → length d ≡ data_size p
     → Bytes d → Written p d c → length y ≡ block_size p → length e ≡ data_size p → Restorable p (bytes c) (bytes y)
-    → (answer_to (extraction b y (length e)) ≡ answer.Accepted) × (data_in (extraction b y (length e)) e ≡ d)
+    → (answer_to (extraction b y (length e)) ≡ Ok tt) × (data_in (extraction b y (length e)) e ≡ d)
 round_trip p b d c y e ok profile size small w long room r =
     let (x, decoded, _) = restoring-bytes p ok c y w.size long r in
     let is = extraction-is b p y (length e) profile long room in
@@ -104,18 +101,18 @@ round_trip p b d c y e ok profile size small w long room r =
     (refl, data-written p d c (record { valid = ok; size = w.size }) size small w.small w.encodes)
 
 abbrev pub Trip : (b d c y : List ℕ) → ℕ → List ℕ → Answers → Type 0
-Trip b d c y o e t = t.written ≡ answer.Accepted → (p : Profile) → profile_of b ≡ Accepted p
+Trip b d c y o e t = t.written ≡ Ok tt → (p : Profile) → profile_of b ≡ Ok p
     → length y ≡ block_size p → o ≡ data_size p → Restorable p (bytes c) (bytes y)
-    → (t.read.answer ≡ answer.Accepted) × (e ≡ d)
+    → (t.read.answer ≡ Ok tt) × (e ≡ d)
 
 -- who is answered by no refusal is accepted with that profile
-writing-is : (p : Profile) (b : List ℕ) (d o : ℕ) → profile_of b ≡ Accepted p
-    → answer_of (writing b d o) ≡ answer.Accepted → writing b d o ≡ Accepted p
+writing-is : (p : Profile) (b : List ℕ) (d o : ℕ) → profile_of b ≡ Ok p
+    → answer_of (writing b d o) ≡ Ok tt → writing b d o ≡ Ok p
 writing-is p b d o profile says = go (writing b d o) refl says
   where
-    go : (a : Parsed) → writing b d o ≡ a → answer_of a ≡ answer.Accepted → writing b d o ≡ Accepted p
-    go (Accepted q) e y = let mine = admitted-profile Encoder b d o 0 q e in cc
-    go (Refused q) e y = let z : ◌≡◌ {A = ℕ} 0 1 = cc in absurd (omega arith)
+    go : (a : Parsed) → writing b d o ≡ a → answer_of a ≡ Ok tt → writing b d o ≡ Ok p
+    go (Ok q) e y = let mine = admitted-profile Encoder b d o 0 q e in cc
+    go (Err q) e y = let z : ◌≡◌ {A = ℕ} 0 1 = cc in absurd (omega arith)
 
 -- from the promises of `encode` and `extract`: o and q are what their outputs held
 pub trip : (b d o c y q e : List ℕ) (t : Answers) → Bytes b → Bytes d
@@ -146,7 +143,7 @@ both f g b y o q e k a c same x z =
 -- ---- values of errors
 
 abbrev pub SumOf : (f : Form) (b y e : List ℕ) (i first k : ℕ) (S : Series) (q : ℕ) → Values → Type 0
-SumOf f b y e i first k S q t = t.read.answer ≡ answer.Accepted → (p : Profile) → profile_of b ≡ Accepted p
+SumOf f b y e i first k S q t = t.read.answer ≡ Ok tt → (p : Profile) → profile_of b ≡ Ok p
     → (l : Line) → Has t.read.report.lines i l → (c s : ℕ) → l.verdict ≡ Corrected c s
     → first ≡ first-root p → k ≡ 2 * capability p s → S ≡ cut k (syndrome_of p (changes p y e i))
     → q < p.length → subword p.length (bytes y) i q ≢ subword p.length (bytes e) i q
@@ -178,5 +175,5 @@ sum_of f b y o e i first k S q t d g small evaluator auxiliary answered p profil
     (λ j h. ap (λ r. syndrome r n (changes p y e i) j) first-is ∙ sym (cut_low k _ j h)
     ∙ ap (λ (S : Series). S j) (sym S-is))) in
     let standing : Is f k (get_or t.read.report.lines i d).solver (state_of f k l.solver) =
-    subst (λ (m : Line). Is f k m.solver (state_of f k l.solver)) (sym (has.1 d)) (x.ended.is.0, refl) in
+    subst (λ (m : Line). Is f k m.solver (state_of f k l.solver)) (sym (has.1 d)) (x.ended.0, refl) in
     (gives, evaluator k f _ standing ∙ gives.evaluator, auxiliary k f _ standing ∙ gives.auxiliary)

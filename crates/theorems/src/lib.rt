@@ -9,13 +9,13 @@ ghost use Rattle.theorems.specs.Theorems.{Trip as RoundTrip, Both as EndAlike, S
 use decoder::prepared::Reading;
 use field::Gf;
 use polynomial::SYNDROMES;
-use profile::Answer;
+use profile::Refusal;
 use solver::Form;
 
 // The answer of a writer, and what a reader hands back.
 #[derive(Clone, Copy)]
 pub struct Trip {
-    pub written: Answer,
+    pub written: Result<(), Refusal>,
     pub read: Reading,
 }
 

@@ -1,23 +1,14 @@
--- Words of one length go one of three ways.
-use Rattle.std.proofs.Common.{ap, rules, ◌∙◌}
-use Rattle.field.specs.Field.{F, val_of}
-use Rattle.series.specs.Series.{K, ◌⊞◌, ◌⊠◌}
-use Rattle.series.specs.Array.{bytes}
-use Rattle.bench_products.specs.Definition.{adds-kept, adds_multiple}
+-- Each way is by c.
+use Rattle.std.proofs.Common.{◌∙◌}
+use Rattle.field.specs.Field.{val_of}
+use Rattle.kernel.specs.ProductRow.{factor-products}
 use Rattle.bench_products.proofs.multiple.Goals as goal
 
-pub returns-then-from-to : goal.returns-then-from-to
-returns-then-from-to c = adds-kept _ _ _ (search rules)
+pub returns-in-Row : goal.returns-in-Row
+returns-in-Row c = c.add.ensures _ (factor-products _ _ c.product_row.ensures ∙ val_of _)
 
-pub returns-then-way-eq-ROW : goal.returns-then-way-eq-ROW
-returns-then-way-eq-ROW c = adds_multiple _ _ _ _ (search rules) c.by_row.ensures
+pub returns-in-Halves : goal.returns-in-Halves
+returns-in-Halves c = rw (val_of _) at (c.add-in-Halves.ensures _ c.split.ensures)
 
-pub returns-then-way-eq-HALVES : goal.returns-then-way-eq-HALVES
-returns-then-way-eq-HALVES c = adds_multiple _ _ _ _ (search rules) c.by_halves.ensures
-
-pub returns : goal.returns
-returns c =
-    let given = c.args in
-    adds_multiple _ _ _ _ (search rules)
-    (c.add_multiple.ensures
-    ∙ ap (λ (a : F). bytes given.to.now ⊞ K a ⊠ bytes given.from.now) (val_of _))
+pub returns-in-Bits : goal.returns-in-Bits
+returns-in-Bits c = c.add-in-Bits.ensures _ (val_of _)

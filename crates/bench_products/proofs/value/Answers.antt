@@ -1,17 +1,15 @@
--- Each way gives the value at w.
-use Rattle.std.proofs.Common.{ap, length, sym, ◌∙◌}
+-- Each way is by w.
+use Rattle.std.proofs.Common.{sym, ◌∙◌}
 use Rattle.field.specs.Field.{val_of}
-use Rattle.series.specs.Value.{value as Value}
-use Rattle.series.specs.Array.{bytes}
+use Rattle.kernel.specs.ProductRow.{factor-products}
 use Rattle.bench_products.proofs.value.Goals as goal
 
-pub returns-then-way-eq-ROW : goal.returns-then-way-eq-ROW
-returns-then-way-eq-ROW c = sym (val_of _) ∙ c.value_by_row-v.ensures
+pub returns-in-Row : goal.returns-in-Row
+returns-in-Row c = sym (val_of _) ∙ c.value-v.ensures _ (factor-products _ _ c.product_row.ensures ∙ val_of _)
 
-pub returns-then-way-eq-HALVES : goal.returns-then-way-eq-HALVES
-returns-then-way-eq-HALVES c = sym (val_of _) ∙ c.value_by_halves-v.ensures
+pub returns-in-Halves : goal.returns-in-Halves
+returns-in-Halves c =
+    sym (val_of _) ∙ rw (val_of (record { 0 = c.args.w })) at (c.value-v-in-Halves.ensures _ c.split.ensures)
 
-pub returns : goal.returns
-returns c =
-    let word = c.args.word.now in
-    sym (val_of _) ∙ c.short_value-v.ensures ∙ ap (Value (length word) (bytes word)) (val_of _)
+pub returns-in-Bits : goal.returns-in-Bits
+returns-in-Bits c = sym (val_of _) ∙ c.value-v-in-Bits.ensures _ (val_of _)

@@ -7,25 +7,25 @@ use Rattle.series.specs.Array.{bytes}
 use Rattle.binary.specs.ChangesLaws.{spike-none, spike-some, bytes_flip}
 use Rattle.binary.proofs.flip.Goals as goal
 
-pub returns-then-is_zero : goal.returns-then-is_zero
-returns-then-is_zero c =
-    let zero = is_zero_true _ (sym c.is_zero.ensures ∙ c.if-is_zero.true) in
-    sym (ap (λ (f : Series). bytes c.args.word.now ⊞ f) (spike-none _ zero) ∙ ⊞-zero _)
+pub bounds-word-log : goal.bounds-word-log
+bounds-word-log c =
+    let some = is_zero_false _ (sym c.is_zero.ensures ∙ c.if-not-is_zero.true) in
+    omega (arith, c.log.ensures, c.requires some)
 
-pub bounds-word-p : goal.bounds-word-p
-bounds-word-p c =
-    let some = is_zero_false _ (sym c.is_zero.ensures ∙ c.if-is_zero.false) in
-    omega (arith, c.log-e.ensures, c.requires some)
+pub bounds-word-log-then-not-is_zero : goal.bounds-word-log-then-not-is_zero
+bounds-word-log-then-not-is_zero c =
+    let some = is_zero_false _ (sym c.is_zero.ensures ∙ c.if-not-is_zero.true) in
+    omega (arith, c.log.ensures, c.requires some)
 
-pub bounds-word-p-2 : goal.bounds-word-p-2
-bounds-word-p-2 c =
-    let some = is_zero_false _ (sym c.is_zero.ensures ∙ c.if-is_zero.false) in
-    omega (arith, c.log-e.ensures, c.requires some)
-
-pub returns : goal.returns
-returns c =
-    let some = is_zero_false _ (sym c.is_zero.ensures ∙ c.if-is_zero.false) in
-    bytes_flip c.args.word.now c.log-e.result.0
-    (omega (arith, c.log-e.ensures, c.requires some))
+pub returns-then-not-is_zero : goal.returns-then-not-is_zero
+returns-then-not-is_zero c =
+    let some = is_zero_false _ (sym c.is_zero.ensures ∙ c.if-not-is_zero.true) in
+    bytes_flip c.args.word.now c.log.result.0
+    (omega (arith, c.log.ensures, c.requires some))
     ∙ ap (λ (f : Series). bytes c.args.word.now ⊞ f)
-    (ap zpow c.log-e.ensures ∙ sym (spike-some _ some))
+    (ap zpow c.log.ensures ∙ sym (spike-some _ some))
+
+pub returns-else-not-is_zero : goal.returns-else-not-is_zero
+returns-else-not-is_zero c =
+    let zero = is_zero_true _ (sym c.is_zero.ensures ∙ c.if-not-is_zero.false) in
+    sym (ap (λ (f : Series). bytes c.args.word.now ⊞ f) (spike-none _ zero) ∙ ⊞-zero _)

@@ -19,6 +19,6 @@ pub returns : goal.returns
 returns c =
     let at = c.args.at in
     c.flip-3.ensures
-    ∙ ap (λ (f : Series). f ⊞ spike (val at.c)) (c.flip-2.ensures
-    ∙ ap (λ (f : Series). f ⊞ spike (val at.b)) (c.flip.ensures
-    ∙ ap (λ (f : Series). f ⊞ spike (val at.a)) (ap bytes c.copy.ensures)))
+    ∙ ap (λ (f : Series). f ⊞ spike (val at.2)) (c.flip-2.ensures
+    ∙ ap (λ (f : Series). f ⊞ spike (val at.1)) (c.flip.ensures
+    ∙ ap (λ (f : Series). f ⊞ spike (val at.0)) (ap bytes c.copy_from_slice.ensures.after)))

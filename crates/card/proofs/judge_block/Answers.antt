@@ -1,10 +1,11 @@
 -- The line, and what comes next.
+use Rattle.card.specs.BlockLineLaws.{printed_as}
 use Rattle.card.proofs.judge_block.Goals as goal
 
 pub returns : goal.returns
 returns c =
-    let print = c.print-size.ensures in
+    let text = c.line_of.ensures in
     record {
-      takes = record { next = c.block_or_end.ensures; line = print.printed };
-      made = print.made;
+      takes = record { next = c.block_or_end.ensures; line = printed_as text.says c.print-size.ensures };
+      made = text.made;
     }

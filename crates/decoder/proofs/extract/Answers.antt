@@ -7,13 +7,13 @@ use Rattle.decoder.proofs.extract.Goals as goal
 
 pub read_data-requires : goal.read_data-requires
 read_data-requires c =
-    let yes = sym c.admit.ensures ∙ c.in-Accepted.is in
+    let yes = sym c.admit.ensures ∙ c.in-Ok.is in
     let (ok, input, output) = extracting-passed c.args.profile.now _ _ _ yes (omega arith) in
     (record { valid = ok; size = input }, output)
 
-pub returns-in-Accepted : goal.returns-in-Accepted
-returns-in-Accepted c =
-    let yes = sym c.admit.ensures ∙ c.in-Accepted.is in
+pub returns-in-Ok : goal.returns-in-Ok
+returns-in-Ok c =
+    let yes = sym c.admit.ensures ∙ c.in-Ok.is in
     let is = ap (λ a. result_of a c.args.input.now) yes in
     let read = c.read_data in
     let (answer, handed, report) = data_as c.args.form _ _ _ _ read.result is read.ensures in
@@ -23,9 +23,9 @@ returns-in-Accepted c =
       report = report;
     }
 
-pub returns-in-Refused : goal.returns-in-Refused
-returns-in-Refused c =
-    let no = sym c.admit.ensures ∙ c.in-Refused.is in
+pub returns-in-Err : goal.returns-in-Err
+returns-in-Err c =
+    let no = sym c.admit.ensures ∙ c.in-Err.is in
     let is = ap (λ a. result_of a c.args.input.now) no in
     let refuse = c.refuse in
     let said = refuse.ensures in

@@ -5,6 +5,3 @@ use Rattle.encoder.proofs.write.Given as goal
 
 abbrev pub invariant-loop-i : goal.invariant-loop-i
 invariant-loop-i l = DownTo l.p l.input l.out l.i l.end × Made l.first l.made l.t
-
-abbrev pub decreases-loop-i : goal.decreases-loop-i
-decreases-loop-i l = l.i

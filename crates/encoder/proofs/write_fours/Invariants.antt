@@ -1,9 +1,7 @@
--- The subwords from i on are right, and the data of those before it end at `end`.
+-- The subwords from m - 4 q on are right, and the data of those before it end at `end`.
+use Rattle.std.proofs.Common.{◌*◌, ◌-◌}
 use Rattle.encoder.specs.Write.{DownTo}
 use Rattle.encoder.proofs.write_fours.Given as goal
 
-abbrev pub invariant-loop-i : goal.invariant-loop-i
-invariant-loop-i l = DownTo l.p l.input l.out l.i l.end
-
-abbrev pub decreases-loop-i : goal.decreases-loop-i
-decreases-loop-i l = l.i
+abbrev pub invariant-loop-q : goal.invariant-loop-q
+invariant-loop-q l = DownTo l.p l.input l.out (l.m - 4 * l.q) l.end

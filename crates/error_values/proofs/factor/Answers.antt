@@ -21,5 +21,5 @@ unfolding scaled or_one
 returns-in-Scaled c r =
     for-form _ _ r c.in-Scaled.is
     (c.product.ensures
-    ∙ ap (λ (x : F). val c.args.s.scaled.gamma ⊙ x)
+    ∙ ap (λ (x : F). val c.in-Scaled.p.gamma ⊙ x)
     (c.one_if_zero.ensures ∙ ap or_one c.coefficient-x.ensures))

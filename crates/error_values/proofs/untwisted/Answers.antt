@@ -1,14 +1,8 @@
 -- The power 256 - f of the location, as a power of α.
-use Rattle.std.proofs.Common.{ap, arith, mul-le-mul, sym, ℕ, ◌*◌, ◌∙◌, ◌≤◌}
+use Rattle.std.proofs.Common.{ap, arith, sym, ℕ, ◌*◌, ◌∙◌}
 use Rattle.field.specs.Field.{F, α, ◌⊙◌, pow, val}
 use Rattle.settling.specs.Twist.{inverse_multiplier-is}
 use Rattle.error_values.proofs.untwisted.Goals as goal
-
-pub overflow_mul-p : goal.overflow_mul-p
-overflow_mul-p c =
-    let p : c.args.p ≤ 255 = omega arith in
-    let e : c.less-e.result ≤ 512 = omega (arith, c.less-e.ensures) in
-    record { fits = omega (arith, mul-le-mul p e) }
 
 pub returns : goal.returns
 returns c =

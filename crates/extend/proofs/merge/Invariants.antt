@@ -1,5 +1,5 @@
 -- The first k subwords are in the sum.
-use Rattle.std.proofs.Common.{length, ◌-◌, ◌≡◌, ◌≤◌}
+use Rattle.std.proofs.Common.{length, ◌≡◌}
 use Rattle.series.specs.Shift.{cut}
 use Rattle.series.specs.Array.{bytes}
 use Rattle.code.specs.Combined.{combined}
@@ -8,9 +8,6 @@ use Rattle.extend.proofs.merge.Given as goal
 
 abbrev pub invariant-loop-k : goal.invariant-loop-k
 invariant-loop-k l =
-    (l.k ≤ l.m) × (length l.word ≡ 255)
+    (length l.word ≡ 255)
     × (bytes l.word ≡ cut l.p.length (combined l.p.length (bytes l.block) (lagrange l.p.subwords (flag l.pending) l.i)
     l.k))
-
-abbrev pub decreases-loop-k : goal.decreases-loop-k
-decreases-loop-k l = l.m - l.k

@@ -5,21 +5,20 @@ use Rattle.extend.specs.Splice.{row-window, window-end}
 use Rattle.extend.proofs.splice.Goals as goal
 
 pub loop-j-init : goal.loop-j-init
-loop-j-init c = (omega arith, omega arith, search rules, sym (window-none _ _ _))
+loop-j-init c = (omega arith, search rules, sym (window-none _ _ _))
 
 pub loop-j-preserved : goal.loop-j-preserved
 loop-j-preserved c =
     let now = c.loop-j in
     let taken = c.loop-j-test.true in (
-      omega (arith, now.invariant.0),
       omega (arith, taken),
-      length-set now.out _ _ ∙ now.invariant.2,
-      row-window now.out _ now.j _ _ _ now.invariant.2 (omega (arith, c.requires, taken)) now.invariant.0
-          (sym (row_at _ now.j (omega (arith, c.requires, taken)))) now.invariant.3,
+      length-set now.out _ _ ∙ now.invariant.1,
+      row-window now.out _ now.j _ _ _ now.invariant.1 (omega (arith, c.requires, taken)) (omega arith)
+          (sym (row_at _ now.j (omega (arith, c.requires, taken)))) now.invariant.2,
     )
 
 pub returns : goal.returns
 returns c =
     let end = c.loop-j in
     let given = c.args in
-    end.invariant.3 ∙ window-end given.from given.to end.j _ _ end.invariant.0 (omega arith) end.invariant.1
+    end.invariant.2 ∙ window-end given.from given.to end.j _ _ (omega arith) (omega arith) end.invariant.0

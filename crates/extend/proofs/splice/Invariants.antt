@@ -5,8 +5,5 @@ use Rattle.staged_decoding.specs.Definition.{window}
 use Rattle.extend.proofs.splice.Given as goal
 
 abbrev pub invariant-loop-j : goal.invariant-loop-j
-invariant-loop-j l = (l.from ≤ l.j) × (l.j ≤ l.to + (l.from - l.to)) × (length l.out ≡ 48)
+invariant-loop-j l = (l.j ≤ l.to + (l.from - l.to)) × (length l.out ≡ 48)
     × (row l.out ≡ window l.from l.j (row l.s) (row l.initial.out))
-
-abbrev pub decreases-loop-j : goal.decreases-loop-j
-decreases-loop-j l = l.to - l.j

@@ -6,26 +6,26 @@ use Rattle.gii.proofs.gii_fetch_start.Goals as goal
 
 pub overflow_cast-i : goal.overflow_cast-i
 overflow_cast-i c =
-    let yes = sym c.answer.ensures ∙ c.in-Accepted.is in
+    let yes = sym c.answer.ensures ∙ c.in-Ok.is in
     let small = fetched-small c.args.profile.now _ _ yes
     (λ k. omega (arith, c.type_inv.profile k)) in
     record { fits = small }
 
-pub returns-in-Accepted : goal.returns-in-Accepted
-returns-in-Accepted c =
+pub returns-in-Ok : goal.returns-in-Ok
+returns-in-Ok c =
     let given = c.args in
     let is = start-accepted given.profile.now _ given.i _
-    (sym c.answer.ensures ∙ c.in-Accepted.is) c.accepted_start.ensures in record {
+    (sym c.answer.ensures ∙ c.in-Ok.is) c.accepted_start.ensures in record {
       value = is;
       part = part-stands (fetching given.profile.now (length given.block.now) given.i)
           given.i _ given.block.now is;
     }
 
-pub returns-in-Refused : goal.returns-in-Refused
-returns-in-Refused c =
+pub returns-in-Err : goal.returns-in-Err
+returns-in-Err c =
     let given = c.args in
     let is =
-    start-refused given.profile.now _ given.i _ (sym c.answer.ensures ∙ c.in-Refused.is) in record {
+    start-refused given.profile.now _ given.i _ (sym c.answer.ensures ∙ c.in-Err.is) in record {
       value = is;
       part = part-stands (fetching given.profile.now (length given.block.now) given.i)
           given.i _ given.block.now is;

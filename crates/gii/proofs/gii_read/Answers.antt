@@ -5,12 +5,12 @@ use Rattle.gii.specs.NumbersDefinition.{result_number}
 use Rattle.gii.proofs.gii_read.Goals as goal
 
 pub read_data-requires : goal.read_data-requires
-read_data-requires c = sym c.admit.ensures ∙ c.in-Accepted.is
+read_data-requires c = sym c.admit.ensures ∙ c.in-Ok.is
 
-pub returns-in-Refused : goal.returns-in-Refused
-returns-in-Refused c =
+pub returns-in-Err : goal.returns-in-Err
+returns-in-Err c =
     let given = c.args in
-    let no = sym c.admit.ensures ∙ c.in-Refused.is in
+    let no = sym c.admit.ensures ∙ c.in-Err.is in
     let is = ap (λ a. result_of a given.block.now) no in
     let told = c.refuse.ensures in record {
       result = told.result ∙ ap (λ r. result_number (answer_to r)) (sym is);

@@ -6,5 +6,5 @@ use Rattle.listing.proofs.blocks.Goals as goal
 
 pub returns : goal.returns
 returns c =
-    appended-line (blocks-short c.args.n (search rules)) (search rules)
-    (appended-next (decimal c.args.n) (ascii "\n") c.put-a.ensures c.field.ensures)
+    appended-line c.new-line.ensures (blocks-short c.args.n (search rules))
+    (appended-next (decimal c.args.n) (ascii "\n") c.put.ensures c.field.ensures)

@@ -6,5 +6,5 @@ use Rattle.listing.proofs.card.Goals as goal
 
 pub returns : goal.returns
 returns c =
-    appended-line (card-short c.args.q (search rules)) (search rules)
-    (appended-next (decimal c.args.q) (ascii "\n") c.put-end.ensures c.field.ensures)
+    appended-line c.new-line.ensures (card-short c.args.q (search rules))
+    (appended-next (decimal c.args.q) (ascii "\n") c.put.ensures c.field.ensures)

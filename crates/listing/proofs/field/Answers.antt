@@ -3,4 +3,4 @@ use Rattle.listing.specs.Laws.{appended_then}
 use Rattle.listing.proofs.field.Goals as goal
 
 pub returns : goal.returns
-returns c = appended_then c.digits-end.ensures c.put.ensures
+returns c = appended_then c.digits.ensures c.put.ensures

@@ -6,5 +6,5 @@ use Rattle.listing.proofs.refused.Goals as goal
 pub returns : goal.returns
 returns c =
     let given = c.args in
-    appended-line (refused-short given.index given.q (search rules) (search rules)) (search rules)
-    (appended-next _ _ c.field-a.ensures c.field.ensures)
+    appended-line c.new-line.ensures (refused-short given.index given.q (search rules) (search rules))
+    (appended-next _ _ c.field.ensures c.field-2.ensures)

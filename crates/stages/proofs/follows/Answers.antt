@@ -1,13 +1,17 @@
 -- No round if none is pending, or too many.
-use Rattle.std.proofs.Common.{ap, leb, sym, ◌-◌, ◌∙◌}
+use Rattle.std.proofs.Common.{ap, arith, leb, ◌-◌, ◌∙◌, ◌≡◌}
+use borrow.Author.Tests.{lt-leb}
+use Rattle.stages.specs.View.{waiting}
 use Rattle.stages.specs.Walk.{follows-none, follows-some}
 use Rattle.stages.proofs.follows.Goals as goal
 
-pub returns-then-b-eq0 : goal.returns-then-b-eq0
-returns-then-b-eq0 c = follows-none _ _ (sym c.unsettled-b.ensures ∙ c.if-b-eq0.true)
-
-pub returns : goal.returns
-returns c =
+pub returns-then-b-ge1 : goal.returns-then-b-ge1
+returns-then-b-ge1 c =
     let count = c.unsettled-b in
     ap (λ w. leb w (c.args.p.nested - c.args.r)) count.ensures
-    ∙ follows-some _ _ (λ z. c.if-b-eq0.false (count.ensures ∙ z))
+    ∙ follows-some _ _ (λ z. omega (arith, count.ensures, z))
+
+pub returns-else-b-ge1 : goal.returns-else-b-ge1
+returns-else-b-ge1 c =
+    let none : waiting c.args.p c.args.states.now ≡ 0 = omega (arith, c.unsettled-b.ensures) in
+    lt-leb 1 _ (omega arith) ∙ follows-none _ _ none

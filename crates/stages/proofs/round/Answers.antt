@@ -29,6 +29,5 @@ returns c =
     let from = ap (λ t. 2 * t) c.capability.ensures in
     let to =
     ap (λ t. 2 * t) (c.capability-2.ensures ∙ ap (capability c.args.p) (add-one c.args.r)) in
-    λ lines. extended c.args.p c.args.pending
-    (omega (arith, c.requires.0.valid.subwords)) _ lines c.args.r _ _
-    (λ g seen. c.extend.ensures g seen ∙ ap₂ (λ a b. (extend c.args.p a b g).row) from to)
+    extended c.args.p c.args.states.now (omega (arith, c.requires.0.valid.subwords)) _ c.args.r _ _
+    (λ g seen. c.extend.ensures g (rw c.pending.ensures seen) ∙ ap₂ (λ a b. (extend c.args.p a b g).row) from to)

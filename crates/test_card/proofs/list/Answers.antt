@@ -1,5 +1,5 @@
 use Rattle.std.proofs.Common.{sym, ◌∙◌}
 use Rattle.test_card.proofs.list.Goals as goal
 
-pub loop-stdout-smaller : goal.loop-stdout-smaller
-loop-stdout-smaller c = c.step-next.ensures (sym c.is_over.ensures ∙ c.loop-stdout-test.true)
+pub loop-rest-smaller : goal.loop-rest-smaller
+loop-rest-smaller c = c.step-s.ensures (sym c.is_over.ensures ∙ c.loop-rest-test.true)

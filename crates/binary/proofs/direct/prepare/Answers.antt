@@ -7,8 +7,8 @@ use Rattle.binary.proofs.direct.prepare.Goals as goal
 pub returns : goal.returns
 returns c =
     let given = c.args in
-    let x = val given.s0 in
-    let y = val given.s2 in
+    let x = val given.s.s0 in
+    let y = val given.s.s2 in
     let square = c.product-square.ensures ∙ sym (pow_2 x) in
     let cube = c.product-cube.ensures ∙ (λ i. x ⊙ square i) ∙ sym (pow-suc x 2) in
     let sixth = c.product-sixth.ensures ∙ (λ i. cube i ⊙ cube i) ∙ sym (pow-add x 3 3) in

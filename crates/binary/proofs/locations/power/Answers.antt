@@ -11,15 +11,15 @@ returns-then-is_zero c =
     let zero = is_zero_true (val c.args.x) (sym c.is_zero.ensures ∙ c.if-is_zero.true) in
     zero ∙ sym (ap (λ (s : F). pow s c.args.e) zero ∙ zero-pow _ c.requires.0)
 
-pub overflow_mul-k : goal.overflow_mul-k
-overflow_mul-k c =
-    let k = c.log-k.result.0 in
-    let small : k ≤ 254 = omega (arith, c.log-k.ensures, log_lt (val c.args.x)) in
+pub overflow_mul-log : goal.overflow_mul-log
+overflow_mul-log c =
+    let k = c.log.result.0 in
+    let small : k ≤ 254 = omega (arith, c.log.ensures, log_lt (val c.args.x)) in
     let most : k * c.args.e ≤ 254 * 254 = mul-le-mul small c.requires.1 in
     record { fits = omega arith }
 
 pub returns : goal.returns
 returns c =
     let x = val c.args.x in
-    c.power.ensures ∙ ap (λ k. pow α (k * c.args.e)) c.log-k.ensures
+    c.power.ensures ∙ ap (λ k. pow α (k * c.args.e)) c.log.ensures
     ∙ pow_by-log x _ (is_zero_false x (sym c.is_zero.ensures ∙ c.if-is_zero.false))

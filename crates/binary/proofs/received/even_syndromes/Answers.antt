@@ -9,7 +9,7 @@ pub returns : goal.returns
 unfolding root syndrome
 returns c =
     let bits = c.masks-bits.ensures in (
-      c.value.ensures (pow α 1) _ (rw (pow-one, c.powers-first.ensures) power_table-of) bits,
-      c.value-2.ensures cube _ c.cubes-third.ensures bits,
-      c.value-3.ensures fifth _ c.fifths-fifth.ensures bits,
+      c.value.ensures (pow α 1) _ (rw (pow-one, c.powers.ensures) power_table-of) bits,
+      c.value-2.ensures cube _ c.cubes.ensures bits,
+      c.value-3.ensures fifth _ c.fifths.ensures bits,
     )

@@ -1,11 +1,8 @@
--- The first i rows are zero.
-use Rattle.std.proofs.Common.{length, ℕ, ◌-◌, ◌<◌, ◌≡◌, ◌≤◌}
+-- The rows passed are zero.
+use Rattle.std.proofs.Common.{ℕ, ◌<◌, ◌≡◌}
 use Rattle.series.specs.Series.{O}
 use Rattle.block.specs.Table.{table}
 use Rattle.block.proofs.codeword.is_zero.Given as goal
 
-abbrev pub invariant-loop-i : goal.invariant-loop-i
-invariant-loop-i l = (l.i ≤ 8) × (length l.rows ≡ 8) × ((k : ℕ) → k < l.i → table l.rows k ≡ O)
-
-abbrev pub decreases-loop-i : goal.decreases-loop-i
-decreases-loop-i l = 8 - l.i
+abbrev pub invariant-loop-row : goal.invariant-loop-row
+invariant-loop-row l = (k : ℕ) → k < l.row-index → table l.fn.rows k ≡ O

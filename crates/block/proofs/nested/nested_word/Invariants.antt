@@ -1,5 +1,5 @@
--- The first i subwords are in the sum, and e is the exponent of the next one's factor.
-use Rattle.std.proofs.Common.{length, ◌*◌, ◌-◌, ◌≡◌, ◌≤◌}
+-- The first i subwords are in the sum.
+use Rattle.std.proofs.Common.{length, ◌*◌, ◌≡◌}
 use Rattle.field.specs.Field.{α, pow}
 use Rattle.series.specs.Shift.{cut}
 use Rattle.series.specs.Array.{bytes}
@@ -8,8 +8,5 @@ use Rattle.block.proofs.nested.nested_word.Given as goal
 
 abbrev pub invariant-loop-i : goal.invariant-loop-i
 invariant-loop-i l =
-    (l.i ≤ l.m) × (length l.word ≡ 255) × (l.e ≡ l.i * l.l)
+    (length l.word ≡ 255)
     × (bytes l.word ≡ cut l.p.length (combined l.p.length (bytes l.block) (λ k. pow α (k * l.l)) l.i))
-
-abbrev pub decreases-loop-i : goal.decreases-loop-i
-decreases-loop-i l = l.m - l.i

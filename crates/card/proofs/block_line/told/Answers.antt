@@ -1,16 +1,13 @@
 -- Accepted, or refused.
-use Rattle.std.proofs.Common.{ap, sym}
+use Rattle.std.proofs.Common.{ap, sym, ◌∙◌}
 use Rattle.card.specs.BlockLineDefinition.{told}
-use Rattle.card.specs.BlockLineLaws.{printed_as}
 use Rattle.card.proofs.block_line.told.Goals as goal
 
-pub returns-in-Accepted : goal.returns-in-Accepted
-returns-in-Accepted c =
-    printed_as (ap (λ a. told c.args.i a c.args.last c.args.changed c.args.bits)
-    (sym c.in-Accepted.is)) c.ok.ensures
+pub returns-in-Ok : goal.returns-in-Ok
+returns-in-Ok c =
+    c.ok.ensures ∙ ap (λ a. told c.args.i a c.args.last c.args.changed c.args.bits) (sym c.in-Ok.is)
 
-pub returns-in-Refused : goal.returns-in-Refused
-returns-in-Refused c =
-    printed_as (ap (λ a. told c.args.i a c.args.last c.args.changed c.args.bits)
-    (sym c.in-Refused.is))
-    (rw c.number.ensures at c.refused.ensures)
+pub returns-in-Err : goal.returns-in-Err
+returns-in-Err c =
+    rw c.into.ensures at c.refused.ensures
+    ∙ ap (λ a. told c.args.i a c.args.last c.args.changed c.args.bits) (sym c.in-Err.is)

@@ -16,8 +16,8 @@ slice_bounds-step-end c =
     let now = c.loop-input in
     sym (length-take-le _ _ (omega (arith, c.size-n.ensures.most now.invariant.1.good, now.invariant.0)))
 
-pub step-r-requires : goal.step-r-requires
-step-r-requires c =
+pub step-s-requires : goal.step-s-requires
+step-s-requires c =
     let now = c.loop-input in
     let inside = c.size-n.ensures.most now.invariant.1.good in (
       now.invariant.1,
@@ -27,11 +27,11 @@ step-r-requires c =
     )
 
 pub loop-input-smaller : goal.loop-input-smaller
-loop-input-smaller c = omega (arith, c.step-r.ensures.falls)
+loop-input-smaller c = omega (arith, c.step-s.ensures.falls)
 
 pub loop-input-preserved : goal.loop-input-preserved
 loop-input-preserved c =
-    let step = c.step-r in
+    let step = c.step-s in
     let now = c.loop-input in
     let read = step.new.bytes in
     let same = length_front now.bytes read c.size-n.result step.auto.bytes in

@@ -2,8 +2,7 @@
 use Rattle.std.proofs.Common.{ap, arith, sym, ◌*◌, ◌∙◌}
 use Rattle.series.specs.Array.{bytes}
 use Rattle.code.specs.Check.{received}
-use Rattle.stages.specs.Walk.{reached-bits}
-use Rattle.decoder.specs.Laws.{fits-same, reached-same, reached-subwords}
+use Rattle.decoder.specs.Laws.{fits-same, reached-same, reached-told}
 use Rattle.decoder.proofs.prepared.decode_copy.Goals as goal
 
 pub copy-requires : goal.copy-requires
@@ -25,10 +24,7 @@ conclude-requires c =
       record { valid = ok; size = omega (arith, same, first, c.requires.0.size, c.requires.1) },
       omega (arith, same, first, c.requires.1, c.requires.2),
       c.requires.3,
-      λ h. (
-        reached-subwords _ c.args.form _ _ _ ok c.run-e.ensures h,
-        reached-bits _ c.args.form _ _ _ c.run-e.ensures h ok,
-      ),
+      reached-told _ c.args.form _ _ _ ok c.run-e.ensures,
     )
 
 pub returns : goal.returns

@@ -1,7 +1,7 @@
 use Rattle.std.proofs.Common.{ap, arith, length, rules, sym, ◌%◌, ◌+◌, ◌-◌, ◌∙◌, ◌≡◌}
 use Rattle.field.specs.Field.{of, val_of}
 use Rattle.series.specs.Shift.{cut}
-use Rattle.series.specs.Array.{bytes, read_at, filled_none, filled_more}
+use Rattle.series.specs.Array.{bytes, bytes-entry, read_at, filled_none, filled_more}
 use Rattle.polynomial.specs.Polynomial.{row-values, row-zeros}
 use Rattle.code.specs.Word.{syndrome}
 use Rattle.divider.specs.EvaluationLanes.{lanes-syndrome}
@@ -9,13 +9,13 @@ use Rattle.divider.specs.EvaluationZero.{zero-syndromes}
 use Rattle.divider.proofs.evaluation.at_roots.Goals as goal
 
 pub returns-then-is_zero : goal.returns-then-is_zero
-returns-then-is_zero c = row-zeros ∙ zero-syndromes _ _ _ _ (c.is_zero.ensures.0 c.if-is_zero.true)
+returns-then-is_zero c = row-zeros ∙ zero-syndromes _ _ _ _ (bytes-entry _ ∙ c.is_zero.ensures.0 c.if-is_zero.true)
 
 pub loop-i-init : goal.loop-i-init
-loop-i-init c = (search rules, filled_none 48 _, λ h. absurd (omega arith))
+loop-i-init c = (filled_none 48 _, λ h. absurd (omega arith))
 
 pub lanes-u-requires : goal.lanes-u-requires
-lanes-u-requires c = (search rules, omega (arith, c.requires, c.loop-i-test.true), c.loop-i.invariant.2)
+lanes-u-requires c = (search rules, omega (arith, c.requires, c.loop-i-test.true), c.loop-i.invariant.1)
 
 pub bounds-u-i : goal.bounds-u-i
 bounds-u-i c = omega arith
@@ -32,8 +32,7 @@ loop-i-preserved c =
     ∙ lanes-syndrome first (length r) (bytes r) _ (i - i % 32) u (i % 32) c.roots-x.ensures c.lanes-u.ensures
     (omega arith) (omega (arith, c.requires, c.loop-i-test.true))
     ∙ ap (syndrome first (length r) (bytes r)) e in (
-      omega arith,
-      filled_more _ now.invariant.1 (omega arith) (val_of _ ∙ here),
+      filled_more _ now.invariant.0 (omega arith) (val_of _ ∙ here),
       λ h. let s : i + 1 - (i + 1) % 32 ≡ i - i % 32 = omega arith in rw s c.lanes-u.ensures,
     )
 
@@ -42,6 +41,6 @@ returns c =
     let end = c.loop-i in
     let given = c.args in
     let word = given.r.now in
-    let e : end.i ≡ given.k = omega (arith, end.invariant.0) in
-    row-values _ end.invariant.1.long ∙ end.invariant.1.is
+    let e : end.i ≡ given.k = omega (arith, end.auto) in
+    row-values _ end.invariant.0.long ∙ end.invariant.0.is
     ∙ ap (λ i. cut i (syndrome given.first (length word) (bytes word))) e

@@ -14,7 +14,6 @@ loop-j-init c =
     let first = c.args.first in
     let k = c.args.k in
     let e : k - 0 ≡ k = omega arith in (
-      search rules,
       length-replicate {A = ℕ} 48 0,
       search rules,
       pow-zero α ∙ sym (ap (generator first k) e ∙ coefficient-top first k),
@@ -32,13 +31,12 @@ loop-j-preserved c =
     let small = c.requires.1 in
     let next =
     power_mod _ ∙ exponent-more first k now.j now.e.0 up.result.0 down.result.0 less
-    (omega (arith, down.ensures.1)) now.invariant.3 up.ensures.0 down.ensures.0 in (
-      omega (arith, less),
-      length-set now.g _ _ ∙ now.invariant.1,
+    (omega (arith, down.ensures.1)) now.invariant.2 up.ensures.0 down.ensures.0 in (
+      length-set now.g _ _ ∙ now.invariant.0,
       omega arith,
       next,
-      back_more first now.g k now.j _ (omega (arith, small)) less now.invariant.1 now.invariant.4
-          (sym (val_of _) ∙ c.power_in-c.ensures ∙ next),
+      back_more first now.g k now.j _ (omega (arith, small)) less now.invariant.0 now.invariant.3
+          (sym (val_of _) ∙ c.power_in.ensures ∙ next),
     )
 
 pub returns : goal.returns
@@ -47,4 +45,4 @@ returns c =
     let first = c.args.first in
     let k = c.args.k in
     let e : end.j ≡ k = omega arith in
-    end.invariant.4 ∙ ap (λ (n : ℕ). zpow (48 - n) ⊠ drop (48 - n) (aligned first k)) e ∙ back-all first k
+    end.invariant.3 ∙ ap (λ (n : ℕ). zpow (48 - n) ⊠ drop (48 - n) (aligned first k)) e ∙ back-all first k

@@ -1,5 +1,5 @@
 -- The first i entries are doubled.
-use Rattle.std.proofs.Common.{length, ◌-◌, ◌≡◌}
+use Rattle.std.proofs.Common.{length, ◌≡◌}
 use Rattle.field.specs.Field.{α}
 use Rattle.series.specs.Series.{K, ◌⊠◌}
 use Rattle.series.specs.Shift.{cut}
@@ -8,6 +8,3 @@ use Rattle.divider.proofs.multiples.doubled.Given as goal
 
 abbrev pub invariant-loop-i : goal.invariant-loop-i
 invariant-loop-i l = (length l.out ≡ 48) × (bytes l.out ≡ cut l.i (K α ⊠ bytes l.list))
-
-abbrev pub decreases-loop-i : goal.decreases-loop-i
-decreases-loop-i l = 48 - l.i

@@ -1,42 +1,13 @@
-use Rattle.std.proofs.Common.{arith, refl, rules, ◌<◌, ◌∙◌}
-use Rattle.kernel.specs.Power.{power-room}
-use Rattle.divider.specs.MultiplesBuilding.{built-one, built_slim, built-more, built-all}
+-- Narrow or wide by the degree: the zeros below 48 - k reach above those that narrow rows do not store.
+use Rattle.std.proofs.Common.{arith}
+use Rattle.divider.specs.Multiples.{rows-narrow, rows-wide}
 use Rattle.divider.proofs.multiples.multiples.Goals as goal
 
-pub loop-w-init : goal.loop-w-init
-loop-w-init c = (refl, built-one _ _ _ _ c.requires.0 c.write.ensures)
+pub build-requires : goal.build-requires
+build-requires c = (c.requires.0, λ i h. c.requires.1 i (omega arith))
 
-pub level-requires : goal.level-requires
-level-requires c =
-    let now = c.loop-w in
-    let r = c.pack-r.result in
-    let more : now.w < 256 = omega (arith, c.loop-w-test.true) in
-    let slim = built_slim c.args.k r now.invariant.1 more c.requires.1 (search rules) (search rules)
-    c.pack-r.ensures in
-    ((power-room now.w now.invariant.1.power more).1, now.invariant.1.long, slim)
+pub returns-then-k-le32 : goal.returns-then-k-le32
+returns-then-k-le32 c = rw (rows-narrow c.args.k c.if-k-le32.true) c.build.ensures
 
-pub loop-w-smaller : goal.loop-w-smaller
-loop-w-smaller c =
-    let now = c.loop-w in
-    omega (
-      arith,
-      (power-room now.w now.invariant.1.power (omega (arith, c.loop-w-test.true))).0,
-      c.loop-w-test.true,
-    )
-
-pub loop-w-preserved : goal.loop-w-preserved
-loop-w-preserved c =
-    let now = c.loop-w in
-    let level = c.level.ensures in
-    let packed = c.pack-r.ensures in (
-      level.long ∙ now.invariant.0,
-      built-more _ _ _ now.invariant.1 (omega (arith, c.loop-w-test.true)) packed level c.doubled-next.ensures,
-    )
-
-pub shape_of-t : goal.shape_of-t
-shape_of-t c = c.loop-w.invariant.0 ∙ c.write.ensures.long
-
-pub returns : goal.returns
-returns c =
-    let end = c.loop-w in
-    built-all _ _ end.w end.top end.t end.invariant.1 (omega (arith, c.loop-w-test.false))
+pub returns-else-k-le32 : goal.returns-else-k-le32
+returns-else-k-le32 c = rw (rows-wide c.args.k (omega (arith, c.if-k-le32.false))) c.build-else-k-le32.ensures

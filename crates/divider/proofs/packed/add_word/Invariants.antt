@@ -1,5 +1,5 @@
 -- The first i symbols are added, and v holds the others.
-use Rattle.std.proofs.Common.{length, ℕ, ◌+◌, ◌-◌, ◌≡◌, ◌≤◌}
+use Rattle.std.proofs.Common.{length, ℕ, ◌+◌, ◌≡◌}
 use Rattle.series.specs.Series.{◌⊞◌, ◌⊠◌}
 use Rattle.series.specs.Shift.{zpow, cut}
 use Rattle.series.specs.Array.{bytes}
@@ -8,8 +8,5 @@ use Rattle.divider.proofs.packed.add_word.Given as goal
 
 abbrev pub invariant-loop-i : goal.invariant-loop-i
 invariant-loop-i l =
-    (l.i ≤ 8) × (length l.out ≡ length l.initial.out) × ((k : ℕ) → digits l.v k ≡ digits l.w (l.i + k))
+    (length l.out ≡ length l.initial.out) × ((k : ℕ) → digits l.v k ≡ digits l.w (l.i + k))
     × (bytes l.out ≡ bytes l.initial.out ⊞ zpow l.at ⊠ cut l.i (digits l.w))
-
-abbrev pub decreases-loop-i : goal.decreases-loop-i
-decreases-loop-i l = 8 - l.i

@@ -1,13 +1,10 @@
 -- The first q symbols stand.
-use Rattle.std.proofs.Common.{length, ◌-◌, ◌≡◌, ◌≤◌}
+use Rattle.std.proofs.Common.{length, ◌≡◌}
 use Rattle.series.specs.Series.{◌⊞◌}
 use Rattle.series.specs.Shift.{cut, drop}
 use Rattle.series.specs.Array.{bytes}
 use Rattle.divider.proofs.reed_solomon.difference.Given as goal
 
 abbrev pub invariant-loop-q : goal.invariant-loop-q
-invariant-loop-q l = (l.q ≤ l.k) × (length l.out ≡ 48)
+invariant-loop-q l = (length l.out ≡ 48)
     × (bytes l.out ≡ cut l.q (bytes l.word ⊞ drop l.above (bytes l.checks)))
-
-abbrev pub decreases-loop-q : goal.decreases-loop-q
-decreases-loop-q l = l.k - l.q

@@ -1,11 +1,8 @@
 -- The first q symbols stand.
-use Rattle.std.proofs.Common.{length, ◌-◌, ◌≡◌, ◌≤◌}
+use Rattle.std.proofs.Common.{length, ◌≡◌}
 use Rattle.encoder.specs.CarrySubword.{Placed}
 use Rattle.encoder.proofs.carry.place.Given as goal
 
 abbrev pub invariant-loop-q : goal.invariant-loop-q
 invariant-loop-q l =
-    (l.q ≤ length l.input) × (length l.word ≡ length l.initial.word) × Placed l.k l.q l.input l.e l.word
-
-abbrev pub decreases-loop-q : goal.decreases-loop-q
-decreases-loop-q l = length l.input - l.q
+    (length l.word ≡ length l.initial.word) × Placed l.k l.q l.input l.e l.word

@@ -1,5 +1,5 @@
 -- The first q symbols are raised.
-use Rattle.std.proofs.Common.{length, ◌-◌, ◌≡◌, ◌≤◌}
+use Rattle.std.proofs.Common.{length, ◌≡◌}
 use Rattle.field.specs.Field.{𝟏, α, pow}
 use Rattle.series.specs.Series.{K, ◌⊞◌, ◌⊠◌}
 use Rattle.series.specs.Shift.{cut}
@@ -9,8 +9,5 @@ use Rattle.encoder.proofs.carry.rise.Given as goal
 
 abbrev pub invariant-loop-q : goal.invariant-loop-q
 invariant-loop-q l =
-    (l.q ≤ length l.initial.word) × (length l.word ≡ length l.initial.word)
+    (length l.word ≡ length l.initial.word)
     × (bytes l.word ≡ bytes l.initial.word ⊞ K 𝟏 ⊠ cut l.q (change (pow α l.l) (bytes l.initial.word) (bytes l.from)))
-
-abbrev pub decreases-loop-q : goal.decreases-loop-q
-decreases-loop-q l = length l.initial.word - l.q

@@ -1,5 +1,5 @@
 -- Each coefficient comes from the one before by a lookup: v is the last one.
-use Rattle.std.proofs.Common.{◌-◌, ◌≡◌, ◌≤◌}
+use Rattle.std.proofs.Common.{◌≡◌}
 use Rattle.field.specs.Field.{of}
 use Rattle.series.specs.Series.{Z, ◌⊠◌}
 use Rattle.series.specs.Array.{Filled}
@@ -10,8 +10,5 @@ use Rattle.error_values.proofs.omega.divided.Given as goal
 
 abbrev pub invariant-loop-j : goal.invariant-loop-j
 invariant-loop-j l =
-    (l.j ≤ 48) × Filled 48 l.j (quotient (factor l.row) (Row l.s)) l.out
-    × (of l.v ≡ (Z ⊠ quotient (factor l.row) (Row l.s)) l.j)
-
-abbrev pub decreases-loop-j : goal.decreases-loop-j
-decreases-loop-j l = 48 - l.j
+    Filled 48 l.j (quotient (factor l.row.products) (Row l.s)) l.out
+    × (of l.v ≡ (Z ⊠ quotient (factor l.row.products) (Row l.s)) l.j)

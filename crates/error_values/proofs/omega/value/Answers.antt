@@ -1,9 +1,9 @@
 -- One coefficient of the product with the quotient.
-use Rattle.std.proofs.Common.{ap, ap₂, arith, rules, sym, ◌∙◌, ◌≡◌}
+use Rattle.std.proofs.Common.{ap, ap₂, arith, sym, ◌∙◌, ◌≡◌}
 use Rattle.field.specs.Field.{◌⊙◌, val-zero}
 use Rattle.series.specs.Value.{value_none}
 use Rattle.polynomial.specs.Polynomial.{poly, row as Row}
-use Rattle.kernel.specs.ProductRow.{row-products, factor-products}
+use Rattle.kernel.specs.ProductRow.{factor-products}
 use Rattle.settling.specs.ErrorValue.{Ω_at}
 use Rattle.error_values.specs.OmegaValue.{omega-is}
 use Rattle.error_values.proofs.omega.value.Goals as goal
@@ -13,9 +13,6 @@ returns-then-k-eq0 c =
     let given = c.args in
     let none : given.k ≡ 0 = omega (arith, c.if-k-eq0.true) in
     val-zero ∙ sym (ap (λ k. Ω_at k (poly given.locator) (Row given.s) given.p) none ∙ value_none _ _)
-
-pub divided-requires : goal.divided-requires
-divided-requires c = row-products _ _ (search rules) c.product_row-row.ensures
 
 pub returns : goal.returns
 returns c =

@@ -6,7 +6,7 @@ use Rattle.gii.proofs.numbers.list_of.Goals as goal
 
 pub returns : goal.returns
 returns c =
-    let given = c.args in
+    let given = c.args.r in
     let with-lines = c.put_lines.new.list in
     let with-block = c.put_two.new.list in
     listed_parts (says given.lines) given.last given.changed given.bits c.head-list.result with-lines

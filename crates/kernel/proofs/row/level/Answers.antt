@@ -1,26 +1,20 @@
-use Rattle.std.proofs.Common.{ap, arith, length-set, refl, rules, ◌∙◌, ◌≡◌}
+use Rattle.std.proofs.Common.{ap, arith, ◌∙◌, ◌≡◌}
 use Rattle.field.specs.Field.{F, ◌⊕◌, of}
 use Rattle.kernel.specs.Store.{bytes-xor, append-none, append-more, append-low}
 use Rattle.kernel.proofs.row.level.Goals as goal
 
 pub loop-x-init : goal.loop-x-init
-loop-x-init c = (search rules, refl, append-none _ _ _)
+loop-x-init c = append-none _ _ _
 
 pub loop-x-preserved : goal.loop-x-preserved
 loop-x-preserved c =
     let now = c.loop-x in
-    let kept = append-low now.row c.args.w now.x _ _ (omega arith) now.invariant.2 in
-    let sum = bytes-xor now.row now.x c.args.top ∙ ap (λ (s : F). s ⊕ of c.args.top) kept in (
-      omega arith,
-      length-set now.row _ _ ∙ now.invariant.1,
-      append-more now.row c.args.w now.x _ _ _ (omega arith) c.requires.1 now.invariant.2 sum,
-    )
-
-pub shape_of-row : goal.shape_of-row
-shape_of-row c = c.loop-x.invariant.1
+    let kept = append-low now.row c.args.w now.x _ _ (omega arith) now.invariant in
+    let sum = bytes-xor now.row now.x c.args.top ∙ ap (λ (s : F). s ⊕ of c.args.top) kept in
+    append-more now.row c.args.w now.x _ _ _ (omega arith) c.requires.1 now.invariant sum
 
 pub returns : goal.returns
 returns c =
     let end = c.loop-x in
     let e : end.x ≡ c.args.w = omega arith in
-    rw e at end.invariant.2
+    rw e at end.invariant

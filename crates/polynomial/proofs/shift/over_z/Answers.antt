@@ -15,4 +15,4 @@ loop-i-preserved c =
     (sym (tail_at _ _ ∙ ap (poly _) (sym (add-one _)) ∙ poly-at _ _ (omega arith)))
 
 pub returns : goal.returns
-returns c = poly-filled 48 c.loop-i.invariant c.loop-i-test.false (below-tail 48 _ (below-poly _))
+returns c = poly-filled 48 c.loop-i.invariant (omega arith) (below-tail 48 _ (below-poly _))

@@ -1,5 +1,4 @@
 -- Entry i gets f[i + 1]. The top entry stays zero.
-use Rattle.std.proofs.Common.{◌-◌}
 use Rattle.series.specs.Series.{tail}
 use Rattle.series.specs.Array.{Filled}
 use Rattle.polynomial.specs.Polynomial.{poly}
@@ -7,6 +6,3 @@ use Rattle.polynomial.proofs.shift.over_z.Given as goal
 
 abbrev pub invariant-loop-i : goal.invariant-loop-i
 invariant-loop-i l = Filled 49 l.i (tail (poly l.f)) l.out
-
-abbrev pub decreases-loop-i : goal.decreases-loop-i
-decreases-loop-i l = 49 - l.i

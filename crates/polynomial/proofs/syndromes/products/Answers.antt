@@ -16,4 +16,4 @@ loop-q-preserved c =
 pub returns : goal.returns
 returns c =
     poly-filled _ c.loop-q.invariant c.loop-q-test.false
-    (below-products _ _ _ c.extent-n.ensures.0)
+    (below-products _ _ _ c.extent-q-end.ensures.0)

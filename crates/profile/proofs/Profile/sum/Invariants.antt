@@ -1,10 +1,7 @@
 -- The sum up to r, each part below 256.
-use Rattle.std.proofs.Common.{◌*◌, ◌-◌, ◌≡◌, ◌≤◌}
+use Rattle.std.proofs.Common.{◌*◌, ◌≡◌, ◌≤◌}
 use Rattle.profile.specs.Definition.{capability_sum}
 use Rattle.profile.proofs.Profile.sum.Given as goal
 
 abbrev pub invariant-loop-r : goal.invariant-loop-r
-invariant-loop-r l = (l.n ≡ capability_sum l.self l.r) × (l.n ≤ 255 * l.r) × (l.r ≤ l.self.nested)
-
-abbrev pub decreases-loop-r : goal.decreases-loop-r
-decreases-loop-r l = l.self.nested - l.r
+invariant-loop-r l = (l.n ≡ capability_sum l.self l.r) × (l.n ≤ 255 * l.r)

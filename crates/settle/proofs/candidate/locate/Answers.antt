@@ -22,4 +22,4 @@ returns-then-not-is_zero-2 c =
     let given = c.args in
     let e : 1 ≡ given.roots = omega arith in
     subst (λ l. Walked given.n (l + 1) l (poly given.locator) (bytes given.numerator.now)
-    c.locate_one.result.whole c.locate_one.result.pattern) e c.locate_one.ensures
+    c.locate_one.result) e c.locate_one.ensures

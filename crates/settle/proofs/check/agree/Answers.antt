@@ -7,7 +7,7 @@ use Rattle.settle.specs.Effect.{same?}
 use Rattle.settle.proofs.check.agree.Goals as goal
 
 pub loop-i-init : goal.loop-i-init
-loop-i-init c = (search rules, below_none _)
+loop-i-init c = below_none _
 
 pub returns-then-l-i : goal.returns-then-l-i
 returns-then-l-i c =
@@ -21,15 +21,13 @@ returns-then-l-i c =
 pub loop-i-preserved : goal.loop-i-preserved
 loop-i-preserved c =
     let given = c.args in
-    let now = c.loop-i in (
-      omega arith,
-      below_more _ now.i now.invariant.1
-          (read_at of 0 _ _ ∙ ap of c.if-l-i.false
-          ∙ sym (rw (row-values given.row (search rules)) (read_at _ _ _ _ ∙ val_of _))),
-    )
+    let now = c.loop-i in
+    below_more _ now.i now.invariant
+    (read_at of 0 _ _ ∙ ap of c.if-l-i.false
+    ∙ sym (rw (row-values given.row (search rules)) (read_at _ _ _ _ ∙ val_of _)))
 
 pub returns : goal.returns
 returns c =
     let given = c.args in
     let end = c.loop-i in
-    sym (holds_yes (same? given.m (bytes given.l) (Row given.row)) (λ j h. end.invariant.1 j (omega arith)))
+    sym (holds_yes (same? given.m (bytes given.l) (Row given.row)) (λ j h. end.invariant j (omega arith)))

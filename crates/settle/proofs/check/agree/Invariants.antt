@@ -1,11 +1,8 @@
 -- The first i entries are the same.
-use Rattle.std.proofs.Common.{ℕ, ◌-◌, ◌<◌, ◌≡◌, ◌≤◌}
+use Rattle.std.proofs.Common.{ℕ, ◌<◌, ◌≡◌}
 use Rattle.series.specs.Array.{bytes}
 use Rattle.polynomial.specs.Polynomial.{row as Row}
 use Rattle.settle.proofs.check.agree.Given as goal
 
 abbrev pub invariant-loop-i : goal.invariant-loop-i
-invariant-loop-i l = (l.i ≤ l.m) × ((j : ℕ) → j < l.i → bytes l.l j ≡ Row l.row j)
-
-abbrev pub decreases-loop-i : goal.decreases-loop-i
-decreases-loop-i l = l.m - l.i
+invariant-loop-i l = (j : ℕ) → j < l.i → bytes l.l j ≡ Row l.row j

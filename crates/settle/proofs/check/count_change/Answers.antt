@@ -13,7 +13,7 @@ returns-then-is_zero c =
 
 pub add_change-requires : goal.add_change-requires
 add_change-requires c =
-    (c.requires.0, c.requires.2, is_zero_false _ (sym c.is_zero.ensures ∙ c.if-is_zero.false), search rules)
+    (c.requires.1, is_zero_false _ (sym c.is_zero.ensures ∙ c.if-is_zero.false), search rules)
 
 pub returns : goal.returns
 returns c =

@@ -1,4 +1,4 @@
-use Rattle.std.proofs.Common.{ap, arith, rules, sym, ◌∙◌, ◌≡◌}
+use Rattle.std.proofs.Common.{ap, arith, sym, ◌∙◌, ◌≡◌}
 use Rattle.series.specs.Series.{◌⊠◌}
 use Rattle.series.specs.Shift.{cut}
 use Rattle.polynomial.specs.Polynomial.{poly, row as Row, poly-at}
@@ -6,17 +6,13 @@ use Rattle.settle.specs.NumeratorProduct.{product-none, product-more, product-fi
 use Rattle.settle.proofs.numerator.numerator.Goals as goal
 
 pub loop-i-init : goal.loop-i-init
-loop-i-init c = (search rules, search rules, product-none 57 _ _)
+loop-i-init c = product-none 57 _ _
 
 pub loop-i-preserved : goal.loop-i-preserved
 loop-i-preserved c =
     let now = c.loop-i in
-    let locator = c.args.locator in (
-      omega arith,
-      omega (arith, c.sum-in-loop-i-1.given),
-      product-more now.i _ _ _ _ _ now.invariant.2 c.add_term.ensures
-          (sym (poly-at locator now.i (omega arith))),
-    )
+    product-more now.i _ _ _ _ _ now.invariant c.add_term.ensures
+    (sym (poly-at c.args.locator now.i (omega arith)))
 
 pub returns : goal.returns
 returns c =
@@ -24,5 +20,5 @@ returns c =
     let given = c.args in
     let e : end.i ≡ given.m = omega arith in
     c.first_bytes.ensures
-    ∙ ap (cut given.m) (end.invariant.2 ∙ ap (λ i. cut i (poly given.locator) ⊠ cut 32 (Row given.row)) e)
+    ∙ ap (cut given.m) (end.invariant ∙ ap (λ i. cut i (poly given.locator) ⊠ cut 32 (Row given.row)) e)
     ∙ product-first given.m _ _ (omega arith)

@@ -1,5 +1,5 @@
 -- The terms at position p stand, and the values at the positions before it, 85 on and 170 on.
-use Rattle.std.proofs.Common.{◌-◌, ◌≡◌, ◌≤◌}
+use Rattle.std.proofs.Common.{◌≡◌}
 use Rattle.series.specs.Value.{value}
 use Rattle.settling.specs.Locator.{W}
 use Rattle.settle.specs.PositionsTerm.{terms}
@@ -9,8 +9,5 @@ use Rattle.settle.proofs.positions.at_positions.Given as goal
 
 abbrev pub invariant-loop-p : goal.invariant-loop-p
 invariant-loop-p l =
-    (l.p ≤ 85) × (symbols l.e ≡ terms (W l.p) (symbols l.initial.e))
+    (symbols l.e ≡ terms (W l.p) (symbols l.initial.e))
     × Placed l.p (λ q. value l.k (symbols l.initial.e) (W q)) l.out
-
-abbrev pub decreases-loop-p : goal.decreases-loop-p
-decreases-loop-p l = 85 - l.p

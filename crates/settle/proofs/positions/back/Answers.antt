@@ -8,5 +8,5 @@ returns-then-e-s c =
     let given = c.args in
     back-less given.e.0 given.s.0 c.if-e-s.true (search rules)
 
-pub returns : goal.returns
-returns c = back_more c.args.e.0 c.args.s.0 c.if-e-s.false (search rules) c.requires
+pub returns-else-e-s : goal.returns-else-e-s
+returns-else-e-s c = back_more c.args.e.0 c.args.s.0 c.if-e-s.false (search rules) c.requires

@@ -9,7 +9,7 @@ pub returns-then-is_zero : goal.returns-then-is_zero
 returns-then-is_zero c = symbol-none ∙ sym (is_zero_true _ (sym c.is_zero.ensures ∙ c.if-is_zero.true))
 
 pub overflow_cast-result : goal.overflow_cast-result
-overflow_cast-result c = omega (arith, c.log-e.ensures, log_lt (val c.args.g))
+overflow_cast-result c = omega (arith, c.log.ensures, log_lt (val c.args.g))
 
-pub returns : goal.returns
-returns c = symbol-log _ _ (is_zero_false _ (sym c.is_zero.ensures ∙ c.if-is_zero.false)) c.log-e.ensures
+pub returns-else-is_zero : goal.returns-else-is_zero
+returns-else-is_zero c = symbol-log _ _ (is_zero_false _ (sym c.is_zero.ensures ∙ c.if-is_zero.false)) c.log.ensures

@@ -6,16 +6,15 @@ use Rattle.settle.specs.PositionsExponent.{lane, symbol-none}
 use Rattle.settle.proofs.positions.exponents.Goals as goal
 
 pub loop-i-init : goal.loop-i-init
-loop-i-init c = (search rules, search rules, read-zeros lane _ symbol-none 32 _)
+loop-i-init c = (search rules, read-zeros lane _ symbol-none 32 _)
 
 pub loop-i-preserved : goal.loop-i-preserved
 loop-i-preserved c =
     let now = c.loop-i in
-    let f = c.args.f in (
-      omega arith,
-      length-set now.out _ _ ∙ now.invariant.1,
-      read_store lane _ now.out now.i _ _ (omega arith) now.invariant.2
-          (c.exponent.ensures ∙ sym (poly-at f now.i (omega arith))),
+    let (long, is) = now.invariant in (
+      length-set now.out _ _ ∙ long,
+      read_store lane _ now.out now.i _ _ (omega (arith, long)) is
+          (c.exponent.ensures ∙ sym (poly-at c.args.f now.i (omega arith))),
     )
 
 pub returns : goal.returns
@@ -23,4 +22,4 @@ returns c =
     let end = c.loop-i in
     let given = c.args in
     let e : end.i ≡ given.k = omega arith in
-    end.invariant.2 ∙ ap (λ i. cut i (poly given.f)) e
+    end.invariant.1 ∙ ap (λ i. cut i (poly given.f)) e

@@ -8,6 +8,6 @@ pub returns : goal.returns
 returns c =
     let index = c.index in
     val_of _
-    ∙ ap (λ (l : List ℕ). of (get_or l index.result 0)) c.requires
+    ∙ ap (λ (l : List ℕ). of (get_or l index.result 0)) c.power.invariant
     ∙ symbol-table index.result index.ensures.1
     ∙ ap symbol index.ensures.0

@@ -10,7 +10,7 @@ returns-then-e-eq255 c =
     let e = c.args.e.0 in
     sym (if_pos (symbol e ≟ 𝟎) (ap symbol c.if-e-eq255.true ∙ symbol-none) _ _)
 
-pub returns : goal.returns
-returns c =
+pub returns-else-e-eq255 : goal.returns-else-e-eq255
+returns-else-e-eq255 c =
     let e = c.args.e.0 in
     sym (if_neg (symbol e ≟ 𝟎) (λ z. c.if-e-eq255.false (symbol-zero e (search rules) z)) _ _)

@@ -11,7 +11,7 @@ returns-then-is_zero c =
     let z = is_zero_true y (sym c.is_zero.ensures ∙ c.if-is_zero.true) in
     z ∙ sym (ap (λ t. inverse_multiplier given.first given.p ⊙ t) z ∙ ⊙-zero _)
 
-pub returns : goal.returns
-returns c =
+pub returns-else-is_zero : goal.returns-else-is_zero
+returns-else-is_zero c =
     let given = c.args in
     c.product.ensures ∙ ap (λ t. t ⊙ val given.y) c.inverse_multiplier.ensures

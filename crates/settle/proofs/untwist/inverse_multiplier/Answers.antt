@@ -14,7 +14,7 @@ overflow_mul-e c =
 pub returns : goal.returns
 returns c =
     let given = c.args in
-    c.power_in.ensures
+    c.at.ensures
     ∙ power_mod _
     ∙ ap (λ k. pow α (given.p * k)) c.less.ensures
     ∙ sym (inverse_multiplier-is given.first given.p (omega arith))

@@ -1,7 +1,12 @@
--- Each form is at its start.
+-- The named form is at its start.
 use Rattle.std.proofs.Common.{refl}
-use Rattle.solver.specs.Solver.{fresh}
 use Rattle.solver.proofs.Solver.start.Goals as goal
 
-pub returns : goal.returns
-returns c = (refl, fresh _ c.start-p.ensures c.start-l.ensures c.start-c.ensures)
+pub returns-in-Plain : goal.returns-in-Plain
+returns-in-Plain c = rw c.in-Plain.is (refl, c.start.ensures)
+
+pub returns-in-Lookahead : goal.returns-in-Lookahead
+returns-in-Lookahead c = rw c.in-Lookahead.is (refl, c.start-in-Lookahead.ensures)
+
+pub returns-in-Scaled : goal.returns-in-Scaled
+returns-in-Scaled c = rw c.in-Scaled.is (refl, c.start-in-Scaled.ensures)

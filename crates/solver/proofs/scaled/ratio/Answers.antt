@@ -8,6 +8,6 @@ pub returns : goal.returns
 unfolding or_one
 returns c =
     c.product.ensures
-    ∙ ap₂ ◌⊙◌ (c.one_if_zero-above.ensures ∙ ap or_one c.coefficient-y.ensures)
+    ∙ ap₂ ◌⊙◌ (c.one_if_zero.ensures ∙ ap or_one c.coefficient-y.ensures)
     (c.inverse.ensures
-    ∙ ap inv (c.one_if_zero-below.ensures ∙ ap or_one c.coefficient-x.ensures))
+    ∙ ap inv (c.one_if_zero-2.ensures ∙ ap or_one c.coefficient-x.ensures))

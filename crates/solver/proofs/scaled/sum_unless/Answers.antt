@@ -11,9 +11,9 @@ returns-then-is_zero c =
     let z : is_zero (val c.args.x) ≡ true = sym c.is_zero.ensures ∙ c.if-is_zero.true in
     rw z (sym (⊞-zero _))
 
-pub returns : goal.returns
+pub returns-else-is_zero : goal.returns-else-is_zero
 unfolding unless
-returns c =
+returns-else-is_zero c =
     let z : is_zero (val c.args.x) ≡ false = sym c.is_zero.ensures
     ∙ c.if-is_zero.false in
     rw z c.sum.ensures

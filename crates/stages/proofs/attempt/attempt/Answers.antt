@@ -6,4 +6,4 @@ pub returns : goal.returns
 returns c =
     kept _ c.requires.0 _ c.requires.1 _ _ _ _ _ _ _ c.seen_before.ensures
     c.seen.ensures
-    c.correctable-t.ensures.0 c.advance-next.ensures c.tried.ensures
+    c.correctable-t.ensures.0 c.advance-solver.ensures c.tried.ensures

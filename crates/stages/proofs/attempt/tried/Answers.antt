@@ -7,5 +7,5 @@ returns c = (
   c.settle.ensures.sound,
   λ f rounds ended are. c.settle.ensures.settled
       (ended-locator rounds _ _ are f _ ended _ c.locator-locator.ensures)
-      (ended-length rounds _ _ are f _ ended _ c.length-length.ensures.has_length),
+      (ended-length rounds _ _ are f _ ended _ c.length.ensures.has_length),
 )

@@ -4,5 +4,5 @@ use Rattle.stages.proofs.report.start.Goals as goal
 
 pub returns : goal.returns
 returns c =
-    let start = c.start-s in
-    started _ _ _ start.ensures.0 start.ensures.1 c.clean-l.ensures.0 c.clean-l.ensures.1
+    let start = c.start in
+    started _ _ _ start.ensures c.clean.ensures.0 c.clean.ensures.1

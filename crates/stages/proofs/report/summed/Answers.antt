@@ -7,8 +7,6 @@ use Rattle.stages.proofs.report.summed.Goals as goal
 pub loop-i-init : goal.loop-i-init
 loop-i-init c = (
   omega arith,
-  search rules,
-  omega arith,
   omega arith,
   sum-none (λ l. count_of l.verdict) c.args.lines,
   sum-none (λ l. l.bits) c.args.lines,
@@ -16,14 +14,15 @@ loop-i-init c = (
 
 pub overflow_add-changed : goal.overflow_add-changed
 overflow_add-changed c =
-    record { fits = omega (arith, c.loop-i.invariant.2, c.changes-changed.ensures.small, c.requires.0) }
+    record { fits = omega (arith, c.loop-i.invariant.0, c.changes-changed.ensures.small, c.requires.0) }
 
 pub overflow_add-bits : goal.overflow_add-bits
 overflow_add-bits c =
     let now = c.loop-i in
+    let long : length c.args.lines ≡ 8 = search rules in
     record {
       fits = short (bits-few c.args.lines c.args.m now.i now.bits _ c.requires.1
-          (omega arith) (omega (arith, now.invariant.1, c.requires.0)) now.invariant.3) (omega (arith, c.requires.0));
+          (omega arith) (omega (arith, long, c.requires.0)) now.invariant.1) (omega (arith, c.requires.0));
     }
   where
     short : {b k : ℕ} → b ≤ 2040 * (k + 1) → k < 8 → b < 65536
@@ -32,15 +31,14 @@ overflow_add-bits c =
 pub loop-i-preserved : goal.loop-i-preserved
 loop-i-preserved c =
     let now = c.loop-i in
-    let low : now.i < length c.args.lines = omega (arith, now.invariant.1, c.requires.0) in (
-      omega arith,
-      now.invariant.1,
-      omega (arith, c.changes-changed.ensures.small, now.invariant.2),
+    let long : length c.args.lines ≡ 8 = search rules in
+    let low : now.i < length c.args.lines = omega (arith, long, c.requires.0) in (
+      omega (arith, c.changes-changed.ensures.small, now.invariant.0),
       bits-few c.args.lines c.args.m now.i now.bits _ c.requires.1 (omega arith) low
-          now.invariant.3,
-      sum_more (λ l. count_of l.verdict) c.args.lines now.changed now.i _ _ low now.invariant.4
+          now.invariant.1,
+      sum_more (λ l. count_of l.verdict) c.args.lines now.changed now.i _ _ low now.invariant.2
           c.changes-changed.ensures.value,
-      sum_more (λ l. l.bits) c.args.lines now.bits now.i _ _ low now.invariant.5 refl,
+      sum_more (λ l. l.bits) c.args.lines now.bits now.i _ _ low now.invariant.3 refl,
     )
 
 pub returns : goal.returns
@@ -49,6 +47,6 @@ returns c =
     let given = c.args in
     let e : end.i ≡ given.m = omega arith in record {
       kept = (refl, refl);
-      changed = end.invariant.4 ∙ ap (λ i. total i (λ k. count_of (says given.lines k).verdict)) e;
-      bits = end.invariant.5 ∙ ap (λ i. total i (λ k. (says given.lines k).bits)) e;
+      changed = end.invariant.2 ∙ ap (λ i. total i (λ k. count_of (says given.lines k).verdict)) e;
+      bits = end.invariant.3 ∙ ap (λ i. total i (λ k. (says given.lines k).bits)) e;
     }

@@ -6,16 +6,13 @@ use Rattle.polynomial.specs.Polynomial.{row-values}
 use Rattle.test_support.proofs.input.row.Goals as goal
 
 pub loop-i-init : goal.loop-i-init
-loop-i-init c = (filled_none 48 _, omega arith)
+loop-i-init c = filled_none 48 _
 
 pub loop-i-preserved : goal.loop-i-preserved
-loop-i-preserved c =
-    let now = c.loop-i in
-    (filled_more _ now.invariant.0 (omega arith) (val_of _ ∙ c.at.ensures), omega arith)
+loop-i-preserved c = filled_more _ c.loop-i.invariant (omega arith) (val_of _ ∙ c.at.ensures)
 
 pub returns : goal.returns
 returns c =
     let end = c.loop-i in
-    let word = c.args.word.now in
-    let all : end.i ≡ 48 = omega (arith, c.loop-i-test.false, end.invariant.1) in
-    row-values _ end.invariant.0.long ∙ end.invariant.0.is ∙ ap (λ k. cut k (bytes word)) all
+    let all : end.i ≡ 48 = omega arith in
+    row-values _ end.invariant.long ∙ end.invariant.is ∙ ap (λ k. cut k (bytes c.args.word.now)) all

@@ -1,10 +1,6 @@
 -- Entry i gets byte i.
-use Rattle.std.proofs.Common.{◌-◌, ◌≤◌}
 use Rattle.series.specs.Array.{bytes, Filled}
 use Rattle.test_support.proofs.input.row.Given as goal
 
 abbrev pub invariant-loop-i : goal.invariant-loop-i
-invariant-loop-i l = Filled 48 l.i (bytes l.word) l.s × (l.i ≤ 48)
-
-abbrev pub decreases-loop-i : goal.decreases-loop-i
-decreases-loop-i l = 48 - l.i
+invariant-loop-i l = Filled 48 l.i (bytes l.word) l.s

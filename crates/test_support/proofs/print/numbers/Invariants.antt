@@ -1,12 +1,7 @@
--- The first i numbers are appended.
-use Rattle.std.proofs.Common.{length, ◌-◌, ◌≤◌}
+-- The first numbers are appended.
 use Rattle.listing.specs.Definition.{Appended}
 use Rattle.test_support.specs.Text.{each, number_at}
 use Rattle.test_support.proofs.print.numbers.Given as goal
 
-abbrev pub invariant-loop-i : goal.invariant-loop-i
-invariant-loop-i l =
-    (l.i ≤ length l.s) × Appended l.at (each (number_at l.s) l.i) l.initial.to l.end l.to
-
-abbrev pub decreases-loop-i : goal.decreases-loop-i
-decreases-loop-i l = length l.s - l.i
+abbrev pub invariant-loop-x : goal.invariant-loop-x
+invariant-loop-x g l = Appended g.row.N (each (number_at l.s) l.x-index) l.initial.line l.line

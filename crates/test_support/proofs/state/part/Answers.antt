@@ -5,6 +5,6 @@ use Rattle.test_support.proofs.state.part.Goals as goal
 
 pub returns : goal.returns
 unfolding part_text
-returns c =
-    let two = appended_then c.polynomial-end.ensures c.polynomial-end-2.ensures in
-    appended_then (appended_then two c.put-end.ensures) c.numbers.ensures
+returns g c =
+    let two = appended_then c.polynomial.ensures c.polynomial-2.ensures in
+    appended_then (appended_then two c.put.ensures) c.numbers.ensures

@@ -14,5 +14,5 @@ returns c =
     let Δ0 = sym (poly-at given.delta 0 (omega arith)) in
     let Δ1 = sym (poly-at given.delta 1 (omega arith)) in
     let left = c.two_products-left.ensures ∙ λ i. m.h1 ⊙ Δ1 i ⊕ m.h2 ⊙ Λ0 i in
-    let right = c.product-right.ensures ∙ λ i. Δ0 i ⊙ m.θS in
+    let right = c.product.ensures ∙ λ i. Δ0 i ⊙ m.θS in
     c.sum.ensures ∙ λ i. left i ⊕ right i

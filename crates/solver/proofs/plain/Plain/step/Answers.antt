@@ -16,7 +16,7 @@ unfolding plain
 returns-then-swaps c S d =
     let given = c.args in
     plain-swap given.r S (plain given.r given.self) _ _ _ _ (below-poly _)
-    d c.times_z-zb.ensures c.combine-next.ensures
+    d c.times_z-zb.ensures c.combine-locator.ensures
     (sym c.swaps.ensures ∙ c.if-swaps.true) c.next_length.ensures
 
 pub returns : goal.returns
@@ -24,5 +24,5 @@ unfolding plain
 returns c S d =
     let given = c.args in
     plain-hold given.r S (plain given.r given.self) _ _ _ _ (below-poly _)
-    d c.times_z-zb.ensures c.combine-next.ensures
+    d c.times_z-zb.ensures c.combine-locator.ensures
     (sym c.swaps.ensures ∙ c.if-swaps.false) (hold-k _ _)

@@ -1,5 +1,0 @@
--- A step with the discrepancy.
-use Rattle.solver.proofs.plain.Plain.iterate.Goals as goal
-
-pub returns : goal.returns
-returns c = c.step.ensures _ c.discrepancy-d.ensures

@@ -1,0 +1,10 @@
+-- The bytes of each write come after those of the writes before it.
+use Rattle.std.proofs.Common.{length, take, ◌-◌, ◌≤◌}
+use Rattle.stream.specs.Definition.{Gave}
+use Rattle.stream.proofs.Stream.write_all.Given as goal
+
+abbrev pub invariant-loop-at : goal.invariant-loop-at
+invariant-loop-at l = (l.at ≤ length l.buf) × Gave l.initial.self (take l.at l.buf) l.self
+
+abbrev pub decreases-loop-at : goal.decreases-loop-at
+decreases-loop-at l = length l.buf - l.at

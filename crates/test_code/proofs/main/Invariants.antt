@@ -1,9 +1,0 @@
--- The loop ends: i rises to the number of cases.
-use Rattle.std.proofs.Common.{◌-◌}
-use Rattle.test_code.proofs.main.Given as goal
-
-abbrev pub invariant-loop-i : goal.invariant-loop-i
-invariant-loop-i l = Unit {0}
-
-abbrev pub decreases-loop-i : goal.decreases-loop-i
-decreases-loop-i l = l.count - l.i

@@ -1,9 +1,0 @@
--- The loop ends: i rises to the length.
-use Rattle.std.proofs.Common.{length, ◌-◌}
-use Rattle.test_decode.proofs.kept.Given as goal
-
-abbrev pub invariant-loop-i : goal.invariant-loop-i
-invariant-loop-i l = Unit {0}
-
-abbrev pub decreases-loop-i : goal.decreases-loop-i
-decreases-loop-i l = length l.out - l.i

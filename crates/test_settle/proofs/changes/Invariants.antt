@@ -1,9 +1,0 @@
--- The loop ends: i rises to 255.
-use Rattle.std.proofs.Common.{length, ◌-◌, ◌≡◌}
-use Rattle.test_settle.proofs.changes.Given as goal
-
-abbrev pub invariant-loop-i : goal.invariant-loop-i
-invariant-loop-i l = length l.line ≡ length l.initial.line
-
-abbrev pub decreases-loop-i : goal.decreases-loop-i
-decreases-loop-i l = 255 - l.i
