@@ -4,7 +4,7 @@
 #![tactic(auto)]
 
 ghost use Rattle.std.specs.Prelude.{◌≡◌, length};
-ghost use Rattle.field.specs.Field.{F, of};
+ghost use Rattle.field.specs.Field.{F, of, val};
 ghost use Rattle.series.specs.Value.{value};
 ghost use Rattle.series.specs.Array.{bytes};
 ghost use Rattle.bench_products.specs.Definition.{Adds};
@@ -41,6 +41,33 @@ fn add<M: Multiplier>(m: &M, from: &[u8], to: &mut [u8])
     }
 }
 
+// The same by a row, which is lent from where it was made: to hand it on would be a call of memcpy, and the library for
+// C asks for no function.
+fn by_row(c: Gf, from: &[u8], to: &mut [u8])
+    ensures { Adds (val c) from.now to.old to.new }
+{
+    let row = kernel::product_row(c);
+    add(&row, from, to);
+}
+
+// The same by half bytes, which are lent so too.
+fn by_halves(c: Gf, from: &[u8], to: &mut [u8])
+    ensures { Adds (val c) from.now to.old to.new }
+{
+    let h = Halves::split(c);
+    add(&h, from, to);
+}
+
+// The same by bits, as `kernel::add_multiple` has it: c times one word, or where c is one the word itself.
+fn by_bits(c: Gf, from: &[u8], to: &mut [u8])
+    ensures { Adds (val c) from.now to.old to.new }
+{
+    if from.len() != to.len() {
+        return;
+    }
+    kernel::add_multiple(c, from, to);
+}
+
 // The same: by a row if `way` is 0, by half bytes if it is 1, else by bits.
 #[unsafe(no_mangle)]
 pub extern "C" fn multiple(way: u8, c: u8, from: &[u8], to: &mut [u8])
@@ -48,10 +75,26 @@ pub extern "C" fn multiple(way: u8, c: u8, from: &[u8], to: &mut [u8])
 {
     let c = Gf(c);
     match Way::from(way) {
-        Way::Row => add(&kernel::product_row(c), from, to),
-        Way::Halves => add(&Halves::split(c), from, to),
-        Way::Bits => add(&c, from, to),
+        Way::Row => by_row(c, from, to),
+        Way::Halves => by_halves(c, from, to),
+        Way::Bits => by_bits(c, from, to),
     }
+}
+
+// The value of a word at w by a row.
+fn value_by_row(w: Gf, word: &[u8]) -> Gf
+    ensures { val result ≡ value (length word.now) (bytes word.now) (val w) }
+{
+    let row = kernel::product_row(w);
+    kernel::value(&row, word)
+}
+
+// The same by half bytes.
+fn value_by_halves(w: Gf, word: &[u8]) -> Gf
+    ensures { val result ≡ value (length word.now) (bytes word.now) (val w) }
+{
+    let h = Halves::split(w);
+    kernel::value(&h, word)
 }
 
 // The value of a word at w, by the same ways.
@@ -61,8 +104,8 @@ pub extern "C" fn value(way: u8, w: u8, word: &[u8]) -> u8
 {
     let w = Gf(w);
     let v = match Way::from(way) {
-        Way::Row => kernel::value(&kernel::product_row(w), word),
-        Way::Halves => kernel::value(&Halves::split(w), word),
+        Way::Row => value_by_row(w, word),
+        Way::Halves => value_by_halves(w, word),
         Way::Bits => kernel::value(&w, word),
     };
     v.0

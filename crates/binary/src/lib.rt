@@ -52,13 +52,17 @@ fn within(x: Gf, n: usize) -> bool
     x.is_zero() || x.log().0 < n
 }
 
-// Puts locations to the test: they are below n, and their syndromes are these.
+// Puts locations to the test: they are below n, and their syndromes are these. Where one is not below n, no power is
+// taken.
 fn test(x: Locations, s: Syndromes, n: usize) -> bool
     ensures { Tests n (val s.s0) (val s.s2) (val s.s4) (val x.0) (val x.1) (val x.2) result }
 {
+    if !within(x.0, n) || !within(x.1, n) || !within(x.2, n) {
+        return false;
+    }
     let two = Syndromes::single(x.0).sum(Syndromes::single(x.1));
     let three = two.sum(Syndromes::single(x.2));
-    within(x.0, n) && within(x.1, n) && within(x.2, n) && three.sum(s).are_zero()
+    three.sum(s).are_zero()
 }
 
 // The locations of the wrong bits of a word of n symbols with these syndromes, if this can be told. A word that has
@@ -94,7 +98,7 @@ fn write(subword: &[u8], at: Locations, out: &mut [u8])
     ensures { bytes out.new ≡ changed (bytes subword.now)
         (val at.0) (val at.1) (val at.2) }
 {
-    out.copy_from_slice(subword);
+    kernel::copy(subword, out);
     flip(at.0, out);
     flip(at.1, out);
     flip(at.2, out);

@@ -143,6 +143,13 @@ impl Syndromes {
     pub fn single(x: Gf) -> Syndromes
         ensures { (val result.s0 ≡ val x) × (val result.s2 ≡ pow (val x) 3) × (val result.s4 ≡ pow (val x) 5) }
     {
+        if x.is_zero() {
+            return Syndromes {
+                s0: x,
+                s2: x,
+                s4: x,
+            };
+        }
         let square = product(x, x);
         let third = product(x, square);
         Syndromes {

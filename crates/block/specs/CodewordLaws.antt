@@ -3,24 +3,21 @@
 -- Proved: a table of syndromes that is zero says that the subwords are in the code of t0, and a codeword has such a
 -- table (zeros-subwords, not_zeros); then the nested words' syndromes below 2 t0 are zero too, and the block is a
 -- codeword exactly if those from there on are (check-passes, check_fails); a nested word's further syndromes are the
--- values of its remainder (word-syndrome). So it is if all these are zero (past-passes), and not if they are not
--- (past_fails).
+-- values of its remainder (word-syndrome). The word passes if all these are zero, as a part of their array
+-- (past-passes), and the block is no codeword if one of them is not (past_fails).
 use Rattle.std.specs.Prelude.{ℕ, zero, suc, ◌+◌, ◌-◌, ◌*◌, ◌≤◌, ◌<◌, ◌≡◌, ◌≢◌, true, false, List, [], ◌∷◌, length, take}
-use Rattle.std.specs.Prelude.{map, drop as drop-list}
-use Rattle.std.proofs.Common.{sym, ap, ◌∙◌, true≢false, arith, lt-ltb, le-ltb}
+use Rattle.std.specs.Prelude.{drop, get_or}
+use Rattle.std.proofs.Common.{sym, ap, ◌∙◌, true≢false, arith, lt-ltb, le-ltb, get_or-take, get_or-drop}
 use Rattle.std.proofs.Math.Bool.{decide_iff}
 use Rattle.std.proofs.Math.Decide.{dec_lt}
 use Rattle.field.specs.declared.Gf.{Gf}
-use Rattle.field.specs.Field.{𝟎, ◌⊙◌, α, pow, ⊙-zero, val, val-zero}
+use Rattle.field.specs.Field.{F, 𝟎, ◌⊙◌, α, pow, ⊙-zero, val}
 use Rattle.series.specs.Sum.{sum-zero}
 use Rattle.series.specs.Series.{Series, O, O-at}
-use Rattle.series.specs.Shift.{drop, drop_at, cut, cut_low, cut_unique}
-use Rattle.series.specs.Array.{bytes, values}
-use Rattle.series.specs.Part.{read-part}
-use Rattle.series.specs.Word.{entry}
+use Rattle.series.specs.Shift.{cut, cut_low, cut_unique}
+use Rattle.series.specs.Array.{bytes}
 use Rattle.series.specs.Decide.{holds, holds_yes, holds_no}
-use Rattle.kernel.specs.Symbol.{read-entry}
-use Rattle.polynomial.specs.Polynomial.{row, row-values, clear-part}
+use Rattle.polynomial.specs.Polynomial.{row, row_at}
 use Rattle.profile.specs.declared.Profile.{Profile}
 use Rattle.profile.specs.Definition.{capability, first-root, checks}
 use Rattle.profile.specs.Valid.{Valid, checks-is, checks_mono, checks-most}
@@ -116,27 +113,22 @@ module _ (p : Profile) (s : Series) (ok : Valid p) (l k c : ℕ) (r : List ℕ) 
   check_fails j h low q n = sym (holds_no (codeword? p s)
       (λ c. n (word-syndrome j low q ∙ c.nested_words l h j (omega (arith, checks-is p l)))))
 
-  -- the same of all these values together
-  module _ (long : length x ≡ 48) (room : 2 * p.t0 ≤ c) where
-    abbrev past : List Gf
-    past = take (c - 2 * p.t0) (drop-list (2 * p.t0) x)
+  -- the values from number a on, as a part of the array
+  module _ (a : ℕ) where
+    abbrev past : ℕ → F
+    past i = val (get_or (take (c - a) (drop a x)) i (record { 0 = 0 }))
 
-    pub past-passes : entry (map val past) ≡ O → Vanish p s l
-    past-passes e j low q =
-        sym (word-syndrome j low q) ∙ ap (λ (f : Series). f j) (row-values x long)
-        ∙ clear-part x (2 * p.t0) c room (omega (arith, asked, long, checks-most p ok l)) e j low (omega (arith, asked))
+    past-is : (i : ℕ) → i < c - a → past i ≡ row x (a + i)
+    past-is i h =
+        ap val (get_or-take (c - a) _ i _ h ∙ get_or-drop a x i _)
+        ∙ sym (row_at x (a + i) (omega (arith, asked, checks-most p ok l)))
 
-    pub past_fails : l < p.nested → entry (map val past) ≢ O → false ≡ holds (codeword? p s)
-    past_fails h n = sym (holds_no (codeword? p s) (λ w. n (zero w)))
-      where
-        entry_zero : Codeword p s → (j : ℕ) → j < c - 2 * p.t0 → drop (2 * p.t0) (values x) j ≡ 𝟎
-        entry_zero w j q =
-            drop_at (2 * p.t0) (values x) j ∙ ap (λ (f : Series). f (2 * p.t0 + j)) (sym (row-values x long))
-            ∙ word-syndrome (2 * p.t0 + j) (omega arith) (omega (arith, asked))
-            ∙ w.nested_words l h (2 * p.t0 + j) (omega (arith, asked, checks-is p l))
+    pub past-passes : ((i : ℕ) → i < c - a → past i ≡ 𝟎) → a ≤ 2 * p.t0 → Vanish p s l
+    past-passes e first j low q =
+        let at : j ≡ a + (j - a) = omega arith in
+        let here : j - a < c - a = omega (arith, asked) in
+        sym (word-syndrome j low q) ∙ ap (row x) at ∙ sym (past-is (j - a) here) ∙ e (j - a) here
 
-        zero : Codeword p s → entry (map val past) ≡ O
-        zero w = sym (read-entry val (record { 0 = 0 }) val-zero past)
-            ∙ read-part val (record { 0 = 0 }) val-zero (2 * p.t0) (c - 2 * p.t0) x
-            (omega (arith, asked, long, room, checks-most p ok l))
-            ∙ cut_unique _ _ O (λ j q. entry_zero w j q ∙ sym (O-at j)) (λ j _. O-at j)
+    pub past_fails : (i : ℕ) → past i ≢ 𝟎 → i < c - a → 2 * p.t0 ≤ a → l < p.nested → false ≡ holds (codeword? p s)
+    past_fails i n here first u =
+        check_fails (a + i) u (omega arith) (omega (arith, asked)) (λ e. n (past-is i here ∙ e))

@@ -98,8 +98,10 @@ pub fn is_codeword(p: Profile, u: &[u64], block: &[u8]) -> bool
         let r = rows[l];
         let checks = p.checks(l as u8) as usize;
         let row = divider::evaluation::at_roots(first, &r[..k], checks);
-        if !kernel::is_zero(&row[low..checks]) {
-            return false;
+        for s in &row[low..checks] {
+            if !s.is_zero() {
+                return false;
+            }
         }
     }
     true

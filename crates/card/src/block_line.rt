@@ -1,4 +1,4 @@
-// The line of a block: the block is read, and what the reading came to is printed.
+// The line of a block: the block is read, and what the reading came to is told.
 // What the promises speak of stands in specs/BlockLineDefinition.antt.
 ghost use Rattle.std.specs.Prelude.{◌<◌, ◌≡◌, true, length};
 ghost use Rattle.profile.specs.Valid.{Valid};

@@ -122,8 +122,15 @@ fn write(p: Profile, input: &[u8], out: &mut [u8])
     }
 }
 
-// Writes the block with the given data, or tells the first question that says no. A refusal leaves every byte of the
-// output.
+// A refusal leaves every byte of the output.
+fn refuse(q: Refusal, out: &mut [u8]) -> Result<(), Refusal>
+    ensures answer { result ≡ Err q }
+    ensures same { out.new ≡ out.old }
+{
+    Err(q)
+}
+
+// Writes the block with the given data, or tells the first question that says no.
 pub fn encode(profile: &[u8], data: &[u8], out: &mut [u8]) -> Result<(), Refusal>
     ensures answer { result ≡
         answer_of (writing profile.now (length «data».now) (length out.old)) }
@@ -131,7 +138,11 @@ pub fn encode(profile: &[u8], data: &[u8], out: &mut [u8]) -> Result<(), Refusal
         written (writing profile.now (length «data».now) (length out.old))
         «data».now out.old }
 {
-    let p = profile::questions::admit(Caller::Encoder, profile, data.len(), out.len(), 0)?;
-    write(p, data, out);
-    Ok(())
+    match profile::questions::admit(Caller::Encoder, profile, data.len(), out.len(), 0) {
+        Ok(p) => {
+            write(p, data, out);
+            Ok(())
+        }
+        Err(refusal) => refuse(refusal, out),
+    }
 }

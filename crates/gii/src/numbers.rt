@@ -99,12 +99,14 @@ pub fn list_of(r: Report) -> [u8; REPORT]
     list
 }
 
-// Copies as much as there is room for; bytes past that keep their value.
+// Copies as much as there is room for; bytes past that keep their value. A loop, as `kernel::copy` is.
 fn fill(list: &[u8], to: &mut [u8])
     ensures { to.new ≡ filled list.now to.old }
 {
     let n = list.len().min(to.len());
-    to[..n].copy_from_slice(&list[..n]);
+    for i in 0..n {
+        to[i] = list[i];
+    }
 }
 
 // Copies them if the answer is no refusal, which leaves every byte.

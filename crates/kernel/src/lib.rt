@@ -12,6 +12,6 @@ mod word;
 
 pub use crate::byte::{index, multiply, product, twice};
 pub use multiplier::{Multiplier, One, add_scaled, scale, value};
-pub use row::{Row, product_row};
+pub use row::{LentRow, Row, product_row};
 pub use symbol::{Symbol, is_zero};
 pub use word::{add, add_multiple, copy};

@@ -26,6 +26,21 @@ impl Multiplier for Row {
     }
 }
 
+// A row of products that is lent, where its owner has it; what follows its 256 entries is of no interest.
+#[derive(Clone, Copy)]
+pub struct LentRow<'a> {
+    pub row: &'a [u8],
+    ghost is: { ProductRow row.now },
+}
+
+impl Multiplier for LentRow<'_> {
+    ghost is_by = { λ l c. factor l.row.now ≡ c };
+
+    fn times(&self, x: u8) -> u8 {
+        self.row[usize::from(x)]
+    }
+}
+
 // Writes the entries from w to 2w - 1: those below w, each with `top` added.
 fn level(top: u8, w: usize, row: &mut [u8])
     requires { (w + w ≤ length row.old) × below w (bytes row.old) }

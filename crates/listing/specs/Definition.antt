@@ -9,6 +9,8 @@
 --   card_line q            the card was refused by the number q
 --   Printed x l n m        the text x was printed into an array that was l: it has n bytes, and the array is m now,
 --                          with the bytes behind the text as they were
+--   Stored a x l n m       the text x was appended to the first a bytes of an array that was l, as far as it has room:
+--                          all of it has n bytes, and the array is m now
 --   Appended n x s t       the text x was appended to the text s, in room for n bytes: t is what fits of both
 use Rattle.std.specs.Prelude.{ℕ, zero, suc, ◌+◌, ◌/◌, ◌%◌, ◌≤◌, ◌≡◌, cond, List, [], ◌∷◌, ◌++◌, ltb, length, take, drop}
 use Prim.Native.Char.{code}
@@ -52,6 +54,10 @@ card_line q = ascii "card refused " ++ decimal q ++ ascii "\n"
 pub record Printed (x l : List ℕ) (n : ℕ) (m : List ℕ) : Type 0 where
   pub size : n ≡ length x
   pub says : m ≡ x ++ drop n l
+
+pub record Stored (a : ℕ) (x l : List ℕ) (n : ℕ) (m : List ℕ) : Type 0 where
+  pub long : length m ≡ length l
+  pub printed : Printed (take (length l) (take a l ++ x)) l n m
 
 pub record Appended (n : ℕ) (x s t : List ℕ) : Type 0 where
   pub says : length s ≤ n → t ≡ take n (s ++ x)

@@ -1,18 +1,22 @@
 -- Texts that are appended one after the other, and the digits of a number.
 --
 -- Proved: what two texts come to that are appended one after the other (appended_then, appended-next); what no text
--- (appended-none), a store (appended-byte), one more byte of a text (appended-more) and a text with no room
--- (appended_full) come to; what a line is that was appended to nothing (appended-line); the digits of a number
--- (decimal-one, decimal-more), and that a number below 2^16 has at most five (decimal-short), so that every line has
--- room (blocks-short, ok-short, refused-short, card-short).
-use Rattle.std.specs.Prelude.{ℕ, zero, suc, ◌+◌, ◌*◌, ◌/◌, ◌%◌, ◌≤◌, ◌<◌, ◌≡◌, refl, List, [], ◌∷◌, ◌++◌, length}
-use Rattle.std.specs.Prelude.{get_or, take}
-use Rattle.std.proofs.Common.{sym, ap, ◌∙◌, append_assoc, append-nil, div-add-mod', mod-lt, arith, lt-ltb, le-ltb}
+-- (appended-none) and one more byte of a text (appended-more) come to; what a line is that was appended to nothing
+-- (appended-line); the same for the first bytes of an array that is lent (stored_then, stored-next, stored-none,
+-- stored-end, stored-more, stored-line), and what a store (stored-byte) and an array with no room (stored_full) come to
+-- there; that as texts this is appending (stored-appended); the digits of a number (decimal-one, decimal-more), and
+-- that a number below 2^16 has at most five (decimal-short), so that every line has room (blocks-short, ok-short,
+-- refused-short, card-short).
+use Rattle.std.specs.Prelude.{ℕ, zero, suc, ◌+◌, ◌-◌, ◌*◌, ◌/◌, ◌%◌, ◌≤◌, ◌<◌, ◌≡◌, refl, List, [], ◌∷◌, ◌++◌, length}
+use Rattle.std.specs.Prelude.{get_or, take, drop, set}
+use Rattle.std.proofs.Common.{sym, ap, ap₂, ◌∙◌, append_assoc, append-nil, div-add-mod', mod-lt, arith, lt-ltb, le-ltb}
 use Rattle.std.proofs.Common.{length-append, length-take, take_all, take-suc, take-take, length-take-le, mod-eq_of_lt}
+use Rattle.std.proofs.Common.{length-set, take-append-drop, take_at, drop-drop}
 use Rattle.std.proofs.Math.Logic.{by_cases}
 use Rattle.std.proofs.Math.Decide.{dec_lt, dec_le}
-use Rattle.std.proofs.lemmas.List.{take-append-le}
-use Rattle.listing.specs.Definition.{glyph, digits, decimal, Appended}
+use Rattle.std.proofs.lemmas.List.{take-append-le, set_split}
+use Rattle.std.proofs.Math.Seq.{take-append_seam, drop-length, drop-append-add}
+use Rattle.listing.specs.Definition.{glyph, digits, decimal, Printed, Stored, Appended}
 use Rattle.listing.specs.Definition.{blocks_line, ok_line, refused_line, card_line}
 
 -- what has room of two texts: the second behind what has room of the first
@@ -52,6 +56,120 @@ appended-more x i h p q =
 pub appended-line : {n : ℕ} {x s t : List ℕ} → s ≡ [] → length x ≤ n → Appended n x s t → t ≡ x
 appended-line {n = n} {x = x} e h p =
     p.says (omega (arith, ap length e)) ∙ ap (λ (w : List ℕ). take n (w ++ x)) e ∙ take_all n x h
+
+-- ---- texts in an array that is lent
+
+printed_front : {x l m : List ℕ} {n : ℕ} → Printed x l n m → take n m ≡ x
+printed_front {x = x} {l = l} {n = n} p = ap (take n) p.says ∙ take_at x (drop n l) n (sym p.size)
+
+printed_behind : {x l m : List ℕ} {n : ℕ} (b : ℕ) → n ≤ b → Printed x l n m → drop b m ≡ drop b l
+printed_behind {x = x} {l = l} {n = n} b h p =
+    let e : b ≡ length x + (b - n) = omega (arith, p.size) in
+    let f : n + (b - n) ≡ b = omega arith in
+    ap₂ drop e p.says ∙ drop-append-add x (drop n l) (b - n) ∙ drop-drop (b - n) n l
+    ∙ ap (λ (i : ℕ). drop i l) f
+
+pub stored_then : {a e b : ℕ} {x y l m k : List ℕ} → Stored a x l e m → Stored e y m b k
+    → Stored a (x ++ y) l b k
+stored_then {a = a} {e = e} {b = b} {x = x} {y = y} {l = l} {m = m} p q =
+    let n = length l in
+    let first = take n (take a l ++ x) in
+    let joined : take n (first ++ y) ≡ take n (take a l ++ (x ++ y)) =
+    room_then n (take a l ++ x) y ∙ ap (take n) (append_assoc (take a l) x y) in
+    let both : take (length m) (take e m ++ y) ≡ take n (take a l ++ (x ++ y)) =
+    ap₂ (λ (i : ℕ) (w : List ℕ). take i (w ++ y)) p.long (printed_front p.printed) ∙ joined in
+    let later : e ≤ b =
+    omega (
+      arith,
+      p.printed.size,
+      q.printed.size,
+      ap length both,
+      ap length joined,
+      length-take n (take a l ++ x),
+      length-take n (first ++ y),
+      length-append first y,
+    ) in
+    record {
+      long = q.long ∙ p.long;
+      printed = record {
+        size = q.printed.size ∙ ap length both;
+        says = q.printed.says ∙ ap₂ ◌++◌ both (printed_behind b later p.printed);
+      };
+    }
+
+-- the second text is two
+pub stored-next : {a e b : ℕ} {x l m k : List ℕ} (y z : List ℕ) → Stored a x l e m → Stored e (y ++ z) m b k
+    → Stored a ((x ++ y) ++ z) l b k
+stored-next {x = x} y z p q = rw (append_assoc x y z) (stored_then p q)
+
+pub stored-none : (a e : ℕ) (l : List ℕ) → e ≡ length (take a l) → Stored a [] l e l
+stored-none a e l h =
+    let n = length l in
+    let none : take n (take a l ++ []) ≡ take a l =
+    ap (take n) (append-nil (take a l)) ∙ take_all n (take a l) (omega (arith, length-take a l)) in
+    let front : take e l ≡ take a l =
+    by_cases (dec_le a n)
+    (λ s. ap (λ (i : ℕ). take i l) (h ∙ length-take-le a l s))
+    (λ s. take_all e l (omega (arith, h, length-take a l)) ∙ sym (take_all a l (omega arith))) in
+    record {
+      long = refl;
+      printed = record {
+        size = h ∙ sym (ap length none);
+        says = sym (take-append-drop e l) ∙ ap (λ (w : List ℕ). w ++ drop e l) (front ∙ sym none);
+      };
+    }
+
+-- where a text ended, nothing is stored yet
+pub stored-end : {a e : ℕ} {x l m : List ℕ} → Stored a x l e m → Stored e [] m e m
+stored-end {e = e} {m = m} p = stored-none e e m (p.printed.size ∙ sym (ap length (printed_front p.printed)))
+
+pub stored-byte : (a b : ℕ) (l : List ℕ) → a < length l → Stored a (b ∷ []) l (a + 1) (set l a b)
+stored-byte a b l h =
+    let n = length l in
+    let long : length (take a l ++ (b ∷ [])) ≡ a + 1 =
+    length-append (take a l) (b ∷ []) ∙ ap (λ (i : ℕ). i + 1) (length-take-le a l (omega arith)) in
+    let all : take n (take a l ++ (b ∷ [])) ≡ take a l ++ (b ∷ []) = take_all n _ (omega (arith, long)) in
+    let next : suc a ≡ a + 1 = omega arith in
+    record {
+      long = length-set l a b;
+      printed = record {
+        size = sym (ap length all ∙ long);
+        says = set_split l a b h ∙ sym (append_assoc (take a l) (b ∷ []) (drop (suc a) l))
+            ∙ ap₂ (λ (w : List ℕ) (i : ℕ). w ++ drop i l) (sym all) next;
+      };
+    }
+
+-- one more byte of the text s, in an array
+pub stored-more : {a e b : ℕ} {l m k : List ℕ} (s : List ℕ) (i : ℕ) → i < length s → Stored a (take i s) l e m
+    → Stored e (get_or s i 0 ∷ []) m b k → Stored a (take (i + 1) s) l b k
+stored-more s i h p q =
+    let next : suc i ≡ i + 1 = omega arith in
+    let more : take i s ++ (get_or s i 0 ∷ []) ≡ take (i + 1) s =
+    sym (take-suc s i 0 h) ∙ ap (λ (n : ℕ). take n s) next in
+    rw more at (stored_then p q)
+
+pub stored_full : (a : ℕ) (x l : List ℕ) → length l ≤ a → Stored a x l (length l) l
+stored_full a x l h =
+    let n = length l in
+    let all : take n (take a l ++ x) ≡ l =
+    ap (λ (w : List ℕ). take n (w ++ x)) (take_all a l h) ∙ take-append_seam l x in
+    record {
+      long = refl;
+      printed = record {
+        size = sym (ap length all);
+        says = sym (append-nil l) ∙ ap₂ ◌++◌ (sym all) (sym (drop-length l));
+      };
+    }
+
+pub stored-line : {x l m : List ℕ} {e : ℕ} → length x ≤ 32 → 32 ≤ length l → Stored 0 x l e m → Printed x l e m
+stored-line {x = x} {l = l} h g p = rw (take_all (length l) x (omega arith)) at p.printed
+
+-- what was stored in an array of n bytes was, as texts, appended in room for n bytes
+pub stored-appended : {n a e : ℕ} {x l m : List ℕ} → length l ≡ n → Stored a x l e m
+    → Appended n x (take a l) (take e m)
+stored-appended {a = a} {x = x} {l = l} h p = record {
+  says = λ _. printed_front p.printed ∙ ap (λ (i : ℕ). take i (take a l ++ x)) h;
+}
 
 -- ---- digits
 
@@ -133,3 +251,10 @@ appended-low k h p = rw (decimal-one k h) (rw (mod-eq_of_lt h) at p)
 pub appended-high : {n : ℕ} {s t u : List ℕ} (k : ℕ) → 10 ≤ k → Appended n (decimal (k / 10)) s t
     → Appended n (glyph (k % 10) ∷ []) t u → Appended n (decimal k) s u
 appended-high k h p q = rw (decimal-more k h) (appended_then p q)
+
+pub stored-low : {a n e : ℕ} {l m : List ℕ} → n < 10 → Stored a (glyph n ∷ []) l e m → Stored a (decimal n) l e m
+stored-low {n = n} h p = rw (decimal-one n h) p
+
+pub stored-high : {a n e b : ℕ} {l m k : List ℕ} → 10 ≤ n → Stored a (decimal (n / 10)) l e m
+    → Stored e (glyph (n % 10) ∷ []) m b k → Stored a (decimal n) l b k
+stored-high {n = n} h p q = rw (decimal-more n h) (stored_then p q)

@@ -1,6 +1,7 @@
-// A text in fixed memory. What the promises speak of stands in specs/Definition.antt.
-ghost use Rattle.std.specs.Prelude.{◌≤◌, ◌≡◌, [], ◌∷◌, length};
-ghost use Rattle.listing.specs.Definition.{decimal, Appended, Printed};
+// A text in fixed memory, and texts appended to the first bytes of an array that is lent, as far as it has room. What
+// the promises speak of stands in specs/Definition.antt.
+ghost use Rattle.std.specs.Prelude.{◌≤◌, ◌≡◌, [], ◌∷◌, length, take};
+ghost use Rattle.listing.specs.Definition.{decimal, Appended, Printed, Stored};
 
 use std::marker::Model;
 
@@ -32,6 +33,14 @@ impl<const N: usize> Text<N> {
         }
     }
 
+    // The text of the first n bytes of an array.
+    pub fn of(bytes: [u8; N], n: usize) -> Self
+        requires { n ≤ N }
+        ensures { result ≡ take n bytes.entry }
+    {
+        Text { bytes, len: n }
+    }
+
     pub fn as_bytes(&self) -> &[u8]
         ensures says { result.now ≡ self.now }
         ensures within { length result.now ≤ N }
@@ -49,33 +58,59 @@ impl<const N: usize> Text<N> {
         n
     }
 
-    // Appends a byte.
-    fn byte(&mut self, b: u8)
-        ensures { Appended N (b ∷ []) self.old self.new }
-    {
-        if self.len < N {
-            self.bytes[self.len] = b;
-            self.len += 1;
-        }
-    }
-
     // Appends a text.
     pub fn put(&mut self, text: &[u8])
         ensures { Appended N text.now self.old self.new }
     {
-        for b in text {
-            self.byte(*b);
-        }
+        self.len = put(&mut self.bytes, self.len, text);
     }
 
-    // Appends the digits of a number: what stands before the last one is a number too.
-    // Not by Display: the promise of `write!` ends where it answers an error, and `ok` promises its line in any case.
+    // Appends the digits of a number.
     pub fn digits(&mut self, n: usize)
         ensures { Appended N (decimal n) self.old self.new }
     {
-        if n >= 10 {
-            self.digits(n / 10);
-        }
-        self.byte(48 + (n % 10) as u8);
+        self.len = digits(&mut self.bytes, self.len, n);
     }
+}
+
+// How many of the first `at` bytes an array has: where a text ends before anything is appended to it.
+pub fn within(to: &[u8], at: usize) -> usize
+    ensures value { result ≡ length (take at to.now) }
+    ensures inside { result ≤ length to.now }
+{
+    at.min(to.len())
+}
+
+// Appends a byte to the first `at` bytes of an array, and answers where the text ends.
+fn byte(to: &mut [u8], at: usize, b: u8) -> usize
+    ensures { Stored at (b ∷ []) to.old result to.new }
+{
+    if at < to.len() {
+        to[at] = b;
+        return at + 1;
+    }
+    to.len()
+}
+
+// Appends a text, and answers where it ends.
+pub fn put(to: &mut [u8], at: usize, text: &[u8]) -> usize
+    ensures { Stored at text.now to.old result to.new }
+{
+    let mut end = within(to, at);
+    for b in text {
+        end = byte(to, end, *b);
+    }
+    end
+}
+
+// Appends the digits of a number, and answers where they end: what stands before the last one is a number too.
+// Not by Display: the promise of `write!` ends where it answers an error, and `ok` promises its line in any case.
+pub fn digits(to: &mut [u8], at: usize, n: usize) -> usize
+    ensures { Stored at (decimal n) to.old result to.new }
+{
+    if n < 10 {
+        return byte(to, at, 48 + n as u8);
+    }
+    let end = digits(to, at, n / 10);
+    byte(to, end, 48 + (n % 10) as u8)
 }

@@ -21,10 +21,8 @@ pub fn odd(f: [Gf; COEFFICIENTS], k: usize) -> [u8; COEFFICIENTS]
     ensures { bytes result ≡ cut k (Odd (poly f)) }
 {
     let mut out = [0u8; COEFFICIENTS];
-    for i in 0..k {
-        if i % 2 == 1 {
-            out[i] = f[i].0;
-        }
+    for i in 0..k / 2 {
+        out[2 * i + 1] = f[2 * i + 1].0;
     }
     out
 }

@@ -17,7 +17,7 @@ use Rattle.series.specs.Shift.{cut, cut_high}
 use Rattle.series.specs.Degree.{below}
 use Rattle.series.specs.Value.{value, value-more, odd}
 use Rattle.series.specs.Array.{values, Filled, filled_none, filled_more, filled_skip}
-use Rattle.series.specs.Word.{weight, weight-none, weight_skip, weight-take}
+use Rattle.series.specs.Word.{weight, weight-none, weight_skip, weight-take, weight_le, weight_split}
 use Rattle.settling.specs.Locator.{W, lead-inv}
 use Rattle.settling.specs.Candidate.{candidate, candidate-root, candidate-other, hits, hits-root, hits-other}
 
@@ -70,8 +70,16 @@ module _ {k L : ℕ} {Λ Ω : Series} where
     pub walked_all : (n : ℕ) → p ≤ n → missing ≡ 0 → Met n k L Λ Ω pattern
     walked_all n h z = record { end = p; room = h; is = w.filled.is; all = omega (arith, w.roots) }
 
-    pub walked-few : (n : ℕ) → p ≡ n → missing ≢ 0 → weight n (hits k Λ) < L
-    walked-few n e h = rw (← e) (omega (arith, w.roots))
+    pub walked-few : (n : ℕ) → p ≤ n → n - p < missing → weight n (hits k Λ) < L
+    walked-few n h l =
+        let e : n ≡ p + (n - p) = omega arith in
+        omega (
+          arith,
+          ap (λ i. weight i (hits k Λ)) e,
+          weight_split p (n - p) (hits k Λ),
+          weight_le (n - p) (λ i. hits k Λ (p + i)),
+          w.roots,
+        )
 
 pub met-below : {n k L : ℕ} {Λ Ω : Series} {pattern : List Gf} → Met n k L Λ Ω pattern → below n (values pattern)
 met-below w i h = ap (λ (f : Series). f i) w.is ∙ cut_high w.end _ i (omega (arith, w.room))

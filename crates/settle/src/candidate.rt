@@ -30,7 +30,8 @@ fn forney(p: usize, denominator: &[u8], numerator: &[u8]) -> Gf
     kernel::product(scaled, bottom.inverse())
 }
 
-// Walks the positions from 0 on, until no root is missing.
+// Walks the positions from 0 on, until no root is missing, or the positions that are left are fewer than the roots that
+// are.
 fn walk(
     locator: [Gf; COEFFICIENTS],
     numerator: &[u8],
@@ -48,6 +49,9 @@ fn walk(
     for p in 0..n {
         if missing == 0 {
             return Some(pattern);
+        }
+        if n - p < missing {
+            return None;
         }
         if values[p].is_zero() {
             pattern[p] = forney(p, &odds[..k], numerator);

@@ -4,8 +4,8 @@
 // promised of what was read and written is proved from it (specs/Trace.antt).
 //
 // A call that is interrupted, or that would have to wait, is made again. A `Stream` tells whether a call failed for
-// another reason, and why. It is lent to each call, and has changed when the call comes back. Nothing is buffered: what
-// a write took is out.
+// another reason, and why. It is lent to each call, and has changed when the call comes back: a copy that was made
+// before is used no more. Nothing is buffered: what a write took is out.
 #![tactic(auto)]
 
 ghost use Rattle.std.specs.Prelude.{◌≡◌, ◌<◌, ◌≤◌, true, length, take};
@@ -20,7 +20,7 @@ use std::thread::yield_now;
 const TRIES: u64 = u64::MAX;
 
 // The streams of a program.
-#[derive(Drop)]
+#[derive(Clone, Copy)]
 pub struct Stream {
     // how many bytes were read, and how many were written, modulo 2^64
     taken: u64,

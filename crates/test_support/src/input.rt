@@ -43,11 +43,8 @@ pub fn bytes(stdin: Stdin, n: usize) -> Text<MOST>
     ensures { length result ≡ n }
 {
     let mut space = [0; MOST];
-    let room = &mut space[..n];
-    fill(stdin, room);
-    let mut read = Text::new();
-    read.put(room);
-    read
+    fill(stdin, &mut space[..n]);
+    Text::of(space, n)
 }
 
 // Byte i of a word, and 0 past its end.

@@ -21,4 +21,4 @@ returns c =
     c.flip-3.ensures
     ∙ ap (λ (f : Series). f ⊞ spike (val at.2)) (c.flip-2.ensures
     ∙ ap (λ (f : Series). f ⊞ spike (val at.1)) (c.flip.ensures
-    ∙ ap (λ (f : Series). f ⊞ spike (val at.0)) (ap bytes c.copy_from_slice.ensures.after)))
+    ∙ ap (λ (f : Series). f ⊞ spike (val at.0)) (ap bytes c.copy.ensures)))

@@ -1,4 +1,5 @@
-use Rattle.std.proofs.Common.{arith, below_more, below_none, length-take-le, rules, sym, true≢false, ◌∙◌}
+use Rattle.std.proofs.Common.{arith, below_more, below_none, length-take-le, sym, ◌∙◌}
+use Rattle.field.specs.Field.{is_zero_true, is_zero_false}
 use Rattle.series.specs.Array.{bytes}
 use Rattle.profile.specs.Valid.{checks-least, checks-most}
 use Rattle.block.specs.CodewordDefinition.{Vanish}
@@ -67,24 +68,32 @@ at_roots-row-requires c =
       checks-most c.args.p c.requires.0.valid c.loop-l.l,
     )
 
-pub slice_bounds-is_zero-start : goal.slice_bounds-is_zero-start
-slice_bounds-is_zero-start c =
+pub slice_bounds-s-items-start : goal.slice_bounds-s-items-start
+slice_bounds-s-items-start c =
     omega (arith, c.checks-checks.ensures, checks-least c.args.p c.requires.0.valid c.loop-l.l)
 
-pub slice_bounds-is_zero-end : goal.slice_bounds-is_zero-end
-slice_bounds-is_zero-end c =
+pub slice_bounds-s-items-end : goal.slice_bounds-s-items-end
+slice_bounds-s-items-end c =
     omega (arith, c.checks-checks.ensures, checks-most c.args.p c.requires.0.valid c.loop-l.l)
+
+pub loop-s-init : goal.loop-s-init
+loop-s-init c = below_none _
+
+pub loop-s-preserved : goal.loop-s-preserved
+loop-s-preserved c =
+    let now = c.loop-s in
+    below_more _ now.s-index now.invariant (is_zero_true _ (sym c.is_zero.ensures ∙ c.if-not-is_zero.false))
 
 pub loop-l-preserved : goal.loop-l-preserved
 loop-l-preserved c =
     let now = c.loop-l in
+    let end = c.loop-s in
     let p = c.args.p in
     let s = bytes c.args.block.now in
     below_more (Vanish p s) now.l now.invariant
     (past-passes p s c.requires.0.valid now.l _ _ _ _ c.further-k.ensures c.checks-checks.ensures
-    (c.remainders-rows.ensures now.l c.loop-l-test.true) c.at_roots-row.ensures (search rules)
-    (omega (arith, c.checks-checks.ensures, checks-least p c.requires.0.valid now.l))
-    (c.is_zero.ensures.0 c.if-not-is_zero.false))
+    (c.remainders-rows.ensures now.l c.loop-l-test.true) c.at_roots-row.ensures _
+    (λ i h. end.invariant i (omega (arith, h, c.loop-s-test.false))) (omega arith))
 
 pub returns : goal.returns
 returns c =
@@ -93,9 +102,8 @@ returns c =
 pub returns-then-not-is_zero : goal.returns-then-not-is_zero
 returns-then-not-is_zero c =
     let l = c.loop-l.l in
-    let p = c.args.p in
     let h = c.loop-l-test.true in
-    past_fails p _ c.requires.0.valid l _ _ _ _ c.further-k.ensures c.checks-checks.ensures
-    (c.remainders-rows.ensures l h) c.at_roots-row.ensures (search rules)
-    (omega (arith, c.checks-checks.ensures, checks-least p c.requires.0.valid l)) h
-    (λ z. true≢false (sym (c.is_zero.ensures.1 z) ∙ c.if-not-is_zero.true))
+    past_fails c.args.p _ c.requires.0.valid l _ _ _ _ c.further-k.ensures c.checks-checks.ensures
+    (c.remainders-rows.ensures l h) c.at_roots-row.ensures _ c.loop-s.s-index
+    (is_zero_false _ (sym c.is_zero.ensures ∙ c.if-not-is_zero.true)) (omega (arith, c.loop-s-test.true))
+    (omega arith) h

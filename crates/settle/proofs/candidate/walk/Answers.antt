@@ -17,6 +17,10 @@ returns-then-missing-eq0 c =
     walked_all (c.loop-p.invariant _ c.at_positions-values.ensures c.odd-odds.ensures) _ (omega arith)
     c.if-missing-eq0.true
 
+pub returns-then-n-p : goal.returns-then-n-p
+returns-then-n-p c =
+    walked-few (c.loop-p.invariant _ c.at_positions-values.ensures c.odd-odds.ensures) _ (omega arith) (omega arith)
+
 pub slice_bounds-forney-end : goal.slice_bounds-forney-end
 slice_bounds-forney-end c = sym (length-take-le _ c.odd-odds.result (omega arith))
 
@@ -46,5 +50,4 @@ returns-then-missing-eq0-2 c =
 
 pub returns-else-missing-eq0-2 : goal.returns-else-missing-eq0-2
 returns-else-missing-eq0-2 c =
-    walked-few (c.loop-p.invariant _ c.at_positions-values.ensures c.odd-odds.ensures) _ (omega arith)
-    c.if-missing-eq0-2.false
+    walked-few (c.loop-p.invariant _ c.at_positions-values.ensures c.odd-odds.ensures) _ (omega arith) (omega arith)

@@ -1,5 +1,5 @@
 -- What is left of a number falls.
-use Rattle.listing.proofs.text.Text.+digits.Given as goal
+use Rattle.listing.proofs.text.+digits.Given as goal
 
 abbrev pub decreases-digits : goal.decreases-digits
-decreases-digits g l = l.n
+decreases-digits l = l.n
